@@ -302,9 +302,9 @@ impl HeldJob {
         }
     }
 
-    /// Completes what the job asks by this answer.
+    /// Answers what the job asks.
     #[inline(always)]
-    pub fn complete(&mut self, answer: &BackAnswer)
+    pub fn tell(&mut self, answer: &BackAnswer)
         requires { IsAnswer (ask_of self.old) answer.now }
         ensures { self.new ≡ step_of self.old answer.now }
     {

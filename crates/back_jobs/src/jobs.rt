@@ -177,10 +177,10 @@ impl Jobs {
         is_held(job, ordered, barrier)
     }
 
-    /// Completes what the job of a number asks by this answer, and gives what that does to its request;
+    /// Answers what the job of a number asks, and gives what that does to its request;
     /// `None` also where none has that number.
     #[inline(always)]
-    pub fn complete(&mut self, number: u64, answer: &BackAnswer) -> Option<Effect>
+    pub fn tell(&mut self, number: u64, answer: &BackAnswer) -> Option<Effect>
         requires { IsAnswer (ask_job self.old number) answer.now }
         ensures completed { self.new ≡ complete_job self.old number answer.now }
         ensures effect { result ≡ effect_of (work_of self.old.works number) answer.now }
@@ -188,7 +188,7 @@ impl Jobs {
         let place = self.place(number)?;
         let job = &mut self.held[place];
         let effect = job.effect(answer);
-        job.complete(answer);
+        job.tell(answer);
         if job.is_done() {
             self.done_place = self.done_place.min(place);
             note(&mut self.finished, job.number(), self.ascending);
@@ -269,9 +269,9 @@ impl Jobs {
         self.held.len()
     }
 
-    /// Aborts the jobs up to the lowest that has a mapping in its hand, and gives that mapping;
+    /// Abandons the jobs up to the lowest that has a mapping in its hand, and gives that mapping;
     /// `None` exactly where no job is left that has one. No job goes on after that.
-    pub fn abort(&mut self) -> Option<Mapping>
+    pub fn give_up(&mut self) -> Option<Mapping>
         ensures mapping { result ≡ first_mapping self.old.works }
         ensures rest { self.new ≡ record self.old { works = after_mapping self.old.works } }
         ensures no_more { length self.new.works ≤ length self.old.works }

@@ -3,7 +3,7 @@ use Rattle.std.proofs.Common.{◌≡◌, ℕ, ◌+◌, ◌<◌, ◌≤◌, ◌^�
 use Rattle.std.proofs.lemmas.Fmt.{length-decimal-le}
 use Rattle.line_text.specs.Words.{joined}
 use Rattle.line_text.specs.Numbers.{hex8}
-use Rattle.blk_base.specs.declared.config.Job.TheVariants as jobs
+use Rattle.blk_base.specs.declared.config.Submission.TheVariants as submissions
 use Rattle.schedule_text.specs.declared.event.Event.TheVariants as events
 use Rattle.bench_load.specs.Text.{IsShort}
 
@@ -26,10 +26,10 @@ four_words v w a b = simp (length-append {A = ℕ}) (omega arith)
 five_words : (v w a b c : List ℕ) → length (joined (v ∷ w ∷ a ∷ b ∷ c ∷ [])) ≡ length v + length w + length a + length b + length c + 4
 five_words v w a b c = simp (length-append {A = ℕ}) (omega arith)
 
-pub read_short : (s c : ℕ) → s < 2 ^ 32 → c < 2 ^ 32 → IsShort (events.Submit (jobs.Read s c))
+pub read_short : (s c : ℕ) → s < 2 ^ 32 → c < 2 ^ 32 → IsShort (events.Submit (submissions.Read s c))
 read_short s c h k = omega (arith, four_words (codes "submit") (codes "read") (decimal s) (decimal c), word_short s h, word_short c k)
 
-pub write_short : (s c t : ℕ) → s < 2 ^ 32 → c < 2 ^ 32 → IsShort (events.Submit (jobs.Write s c t))
+pub write_short : (s c t : ℕ) → s < 2 ^ 32 → c < 2 ^ 32 → IsShort (events.Submit (submissions.Write s c t))
 write_short s c t h k =
     omega (arith, five_words (codes "submit") (codes "write") (decimal s) (decimal c) (hex8 t), word_short s h, word_short c k, hex_short t)
 

@@ -7,7 +7,7 @@ use Rattle.line_text.specs.Words.{words_in}
 use Rattle.line_text.specs.Numbers.{number_of, hex_of, hex8}
 use Rattle.line_text.proofs.Again.{number_again, small_again, hex_again}
 use Rattle.line_text.proofs.Solid.{is_solid, solid_again, solid_decimal, solid_hex}
-use Rattle.blk_base.specs.declared.config.Job.TheVariants as jobs
+use Rattle.blk_base.specs.declared.config.Submission.TheVariants as submissions
 use Rattle.rand_pcg.specs.Lcg.{Lcg}
 use Rattle.schedule_text.specs.declared.event.Event.{Event}
 use Rattle.schedule_text.specs.declared.event.Event.TheVariants as events
@@ -78,31 +78,31 @@ clear_job k n h i allowed = record {
   unbroken = joined_unbroken (codes "job" ∷ decimal k ∷ decimal n ∷ []) (literal (codes "job") refl, (unbroken_small k h, (unbroken_small n i, tt)));
 }
 
-clear_read : (s c : ℕ) → s < 2 ^ 32 → 0 < c → c < 2 ^ 32 → IsClear (events.Submit (jobs.Read s c))
+clear_read : (s c : ℕ) → s < 2 ^ 32 → 0 < c → c < 2 ^ 32 → IsClear (events.Submit (submissions.Read s c))
 unfolding event_at
 clear_read s c h some i = record {
   widths = (small s h, (some, i));
   allowed = refl;
   again =
       ap event_at (solid_again (codes "submit") (codes "read" ∷ decimal s ∷ decimal c ∷ []) (rw (solid_small s h, solid_small c i) refl))
-      ∙ ap (λ (x : ℕ). events.Submit (jobs.Read x (max (number_of (decimal c) % 2 ^ 32) 1))) (number_again s (small s h))
-      ∙ ap (λ (x : ℕ). events.Submit (jobs.Read s x)) (count_again c (some, i));
+      ∙ ap (λ (x : ℕ). events.Submit (submissions.Read x (max (number_of (decimal c) % 2 ^ 32) 1))) (number_again s (small s h))
+      ∙ ap (λ (x : ℕ). events.Submit (submissions.Read s x)) (count_again c (some, i));
   speaks = λ s. absurd (cc s.0);
   unbroken =
       joined_unbroken (codes "submit" ∷ codes "read" ∷ decimal s ∷ decimal c ∷ [])
       (literal (codes "submit") refl, (literal (codes "read") refl, (unbroken_small s h, (unbroken_small c i, tt))));
 }
 
-clear_write : (s c t : ℕ) → s < 2 ^ 32 → 0 < c → c < 2 ^ 32 → t < 2 ^ 32 → IsClear (events.Submit (jobs.Write s c t))
+clear_write : (s c t : ℕ) → s < 2 ^ 32 → 0 < c → c < 2 ^ 32 → t < 2 ^ 32 → IsClear (events.Submit (submissions.Write s c t))
 unfolding event_at
 clear_write s c t h some i j = record {
   widths = (small s h, (some, i), j);
   allowed = refl;
   again =
       ap event_at (solid_again (codes "submit") (codes "write" ∷ decimal s ∷ decimal c ∷ hex8 t ∷ []) (rw (solid_small s h, solid_small c i, solid_hex t) refl))
-      ∙ ap (λ (x : ℕ). events.Submit (jobs.Write x (max (number_of (decimal c) % 2 ^ 32) 1) (hex_of (hex8 t)))) (number_again s (small s h))
-      ∙ ap (λ (x : ℕ). events.Submit (jobs.Write s x (hex_of (hex8 t)))) (count_again c (some, i))
-      ∙ ap (λ (x : ℕ). events.Submit (jobs.Write s c x)) (hex_again t j);
+      ∙ ap (λ (x : ℕ). events.Submit (submissions.Write x (max (number_of (decimal c) % 2 ^ 32) 1) (hex_of (hex8 t)))) (number_again s (small s h))
+      ∙ ap (λ (x : ℕ). events.Submit (submissions.Write s x (hex_of (hex8 t)))) (count_again c (some, i))
+      ∙ ap (λ (x : ℕ). events.Submit (submissions.Write s c x)) (hex_again t j);
   speaks = λ s. absurd (cc s.0);
   unbroken =
       joined_unbroken (codes "submit" ∷ codes "write" ∷ decimal s ∷ decimal c ∷ hex8 t ∷ [])

@@ -2,8 +2,8 @@
 use Rattle.std.specs.Prelude.{ℕ, zero, suc, ◌+◌, ◌%◌, ◌==◌, nat_le, List, [], ◌∷◌, ◌++◌, if◌then◌else◌}
 use Rattle.rand_pcg.specs.Lcg.{Lcg, started, increment_of}
 use Rattle.rand_pcg.specs.Pcg.{multiplier_64, pcg32}
-use Rattle.blk_base.specs.declared.config.Job.{Job}
-use Rattle.blk_base.specs.declared.config.Job.TheVariants as jobs
+use Rattle.blk_base.specs.declared.config.Submission.{Submission}
+use Rattle.blk_base.specs.declared.config.Submission.TheVariants as submissions
 use Rattle.schedule_text.specs.declared.event.Event.{Event}
 use Rattle.schedule_text.specs.declared.event.Event.TheVariants as events
 
@@ -33,11 +33,11 @@ sector_by place = place % 4096
 abbrev pub count_by : ℕ → ℕ
 count_by size = 1 + size % 16
 
-abbrev pub write_by : Words → Job
-write_by w = jobs.Write (sector_by w.place) (count_by w.size) w.kind
+abbrev pub write_by : Words → Submission
+write_by w = submissions.Write (sector_by w.place) (count_by w.size) w.kind
 
-abbrev pub read_by : Words → Job
-read_by w = jobs.Read (sector_by w.place) (count_by w.size)
+abbrev pub read_by : Words → Submission
+read_by w = submissions.Read (sector_by w.place) (count_by w.size)
 
 -- the line that three words say, by the last digit of the first
 abbrev pub event_by : Words → Event

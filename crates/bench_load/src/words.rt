@@ -3,7 +3,7 @@ ghost use Rattle.std.specs.Prelude.{◌≡◌};
 ghost use Rattle.bench_load.specs.Text.{IsShort};
 ghost use Rattle.bench_load.specs.Generated.{event_by, words_of, after_words, count_by, sector_by};
 
-use blk_base::{Job, SectorCount};
+use blk_base::{SectorCount, Submission};
 use rand_core::utils::NextWord;
 use rand_pcg::Lcg64Xsh32;
 use schedule_text::Event;
@@ -26,12 +26,12 @@ fn event(kind: u32, place: u32, size: u32) -> Event
     ensures says { result ≡ event_by (record { kind = kind; place = place; size = size }) }
 {
     match kind % 10 {
-        0..=3 => Event::Submit(Job::Write {
+        0..=3 => Event::Submit(Submission::Write {
             sector: sector(place),
             count: count(size),
             tag: kind,
         }),
-        4..=6 => Event::Submit(Job::Read {
+        4..=6 => Event::Submit(Submission::Read {
             sector: sector(place),
             count: count(size),
         }),

@@ -20,8 +20,8 @@ use Rattle.back_jobs.specs.Hands.{hands_in, Names, HasOneMore, HandsAfter}
 use Rattle.back_jobs.proofs.Hands.{framed, named_among, told_hands, done_hands, started_hands, after_hands, few_in_hands}
 use Rattle.back_jobs.proofs.Order.{next_above}
 use Rattle.segment_list.specs.declared.verdict.DiskInfo.{DiskInfo}
-use Rattle.blk_back.specs.declared.told.Halt.{Halt}
-use Rattle.blk_back.specs.declared.told.Halt.TheVariants as halt
+use Rattle.blk_base.specs.declared.halt.Halt.{Halt}
+use Rattle.blk_base.specs.declared.halt.Halt.TheVariants as halt
 use Rattle.blk_back.specs.declared.stage.Reply.{Reply}
 use Rattle.blk_back.specs.declared.stage.BackStage.{BackStage}
 use Rattle.blk_back.specs.declared.stage.BackStage.TheVariants as stage

@@ -11,7 +11,7 @@ use Rattle.back_jobs.specs.Jobs.{HeldJobs, none_held}
 use Rattle.blk_back.specs.declared.stage.BackStage.{BackStage}
 use Rattle.blk_back.specs.declared.stage.BackStage.TheVariants as stage
 use Rattle.blk_back.specs.declared.told.BackTold.{BackTold}
-use Rattle.blk_back.specs.declared.told.Halt.{Halt}
+use Rattle.blk_base.specs.declared.halt.Halt.{Halt}
 
 -- What belongs to one ring (`struct xen_blkif_ring` of Linux's back): its own indices; whether the back sleeps; the requests' producer as last read; the front's port, as its negotiation read it; and the words of the entry being copied.
 pub record RingInfo : Type 0 where

@@ -14,10 +14,10 @@ mod jobs;
 mod steps;
 
 use crate::stage::{BackStage, Reply};
-use crate::told::{BackTold, Halt};
+use crate::told::BackTold;
 use arrayvec::ArrayVec;
 use back_jobs::Jobs;
-use blk_base::{Abi, BackAnswer, BackAsk, Config, Endpoint, Mapping, Mode, OutOfMemory};
+use blk_base::{Abi, BackAnswer, BackAsk, Config, Endpoint, Halt, Mapping, Mode, OutOfMemory};
 use blk_layout::{MOST_ENTRY_WORDS, Response, response_words};
 use ring_words::{BackRing, REQ_EVENT, REQ_PROD, RSP_EVENT, RSP_PROD, RingShape};
 use segment_list::DiskInfo;
@@ -263,7 +263,7 @@ impl<'a> Endpoint<'a> for Back {
 
     ghost asked = { ask_of };
 
-    ghost MayComplete = { λ back answer. IsAnswer (ask_of back) answer × (back.told ≡ None) };
+    ghost MayTell = { λ back answer. IsAnswer (ask_of back) answer × (back.told ≡ None) };
 
     #[inline(always)]
     fn ask(&'a self) -> BackAsk<'a>
@@ -277,7 +277,7 @@ impl<'a> Endpoint<'a> for Back {
         self.next_ask()
     }
 
-    fn complete(&mut self, answer: &BackAnswer<'a>) -> Result<(), OutOfMemory>
+    fn tell(&mut self, answer: &BackAnswer<'a>) -> Result<(), OutOfMemory>
         requires { IsAnswer (ask_of self.old) answer.now × (self.old.told ≡ None) }
         ensures completed { self.new ≡ step_of self.old answer.now }
         ensures hands { HandsAfter (ask_of self.old) answer.now (hands_of self.old) (hands_of self.new) }

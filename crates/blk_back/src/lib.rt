@@ -10,4 +10,4 @@ mod told;
 
 pub use back::Back;
 pub use stage::{BackStage, Reply};
-pub use told::{BackTold, Halt};
+pub use told::BackTold;

@@ -10,6 +10,9 @@ pub type Path = ShortText<80>;
 /// A key's text, at most 64 bytes.
 pub type Text = ShortText<64>;
 
+/// The name of a key, 1 to 32 bytes from `a` to `z`, `0` to `9` and `-`.
+pub type KeyName = ShortText<32>;
+
 /// What the front asks: one word of its own memory, one hypercall, one key or one event.
 /// Frames and words are numbers below 1088 and 1024.
 #[derive(Debug, Drop, PartialEq)]

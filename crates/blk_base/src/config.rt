@@ -48,7 +48,7 @@ impl SectorCount {
 /// What a front is asked to do with the disk. `sector` is the first 512-byte sector; sector `i` of
 /// a write or barrier is filled with the word `tag + i` modulo 2^32.
 #[derive(Clone, Copy, Debug, PartialEq, Eq)]
-pub enum Job {
+pub enum Submission {
     Read {
         sector: u64,
         count: SectorCount,

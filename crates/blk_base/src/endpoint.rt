@@ -30,7 +30,7 @@ impl<T: Drop> From<AllocFailed<T>> for OutOfMemory {
 }
 
 /// An end of a ring, moved one step at a time: it asks for one thing (a shared word, a hypercall, a
-/// key, an event or a call of the disk), and an answer completes it. What it asks may borrow from it.
+/// key, an event or a call of the disk), and is told what became of that. What it asks may borrow from it.
 pub trait Endpoint<'a> {
     type Ask;
 
@@ -39,15 +39,15 @@ pub trait Endpoint<'a> {
     /// What an end asks: a function of its value alone.
     ghost asked: { Self → Self.Ask };
 
-    /// What may complete its ask now.
-    ghost MayComplete: { Self → Self.Answer → Type 0 };
+    /// What it may be told now.
+    ghost MayTell: { Self → Self.Answer → Type 0 };
 
     /// What the end asks next. It changes nothing.
     fn ask(&'a self) -> Self::Ask
         ensures { result ≡ asked self.now };
 
-    /// Completes what the end asks by this answer. After an `Err` the end is as before.
-    fn complete(&mut self, answer: &Self::Answer) -> Result<(), OutOfMemory>
-        requires { MayComplete self.old answer.now }
+    /// Tells the end what became of its ask. After an `Err` the end is as before.
+    fn tell(&mut self, answer: &Self::Answer) -> Result<(), OutOfMemory>
+        requires { MayTell self.old answer.now }
         ensures unchanged { OnErr result (self.new ≡ self.old) };
 }

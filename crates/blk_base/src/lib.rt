@@ -7,19 +7,23 @@
 mod ask;
 mod config;
 mod endpoint;
+mod halt;
 mod index;
 mod lent;
 mod moves;
 mod operation;
 mod parts;
+mod refusal;
 mod short_text;
 
-pub use ask::{BackAnswer, BackAsk, FrontAnswer, FrontAsk, Path, Text};
-pub use config::{Config, Job, SectorCount};
+pub use ask::{BackAnswer, BackAsk, FrontAnswer, FrontAsk, KeyName, Path, Text};
+pub use config::{Config, SectorCount, Submission};
 pub use endpoint::{Endpoint, OutOfMemory};
+pub use halt::Halt;
 pub use index::Idx;
 pub use lent::Lent;
 pub use moves::{Access, BackMover, Move, Mover};
 pub use operation::{Abi, Op, Status};
 pub use parts::{End, Mapping, Mode, SectorWords};
+pub use refusal::Refusal;
 pub use short_text::ShortText;

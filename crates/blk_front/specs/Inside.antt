@@ -7,8 +7,6 @@ use Rattle.blk_front.specs.View.{View}
 
 abbrev pub view_of : Inside → View
 view_of f = record {
-  sectors = f.sectors;
-  read_only = f.read_only;
   start = f.start;
   offers = f.offers;
   shape = record { abi = f.abi; order = f.order };

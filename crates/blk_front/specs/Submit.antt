@@ -2,8 +2,8 @@
 use Rattle.std.specs.Prelude.{ℕ, ◌+◌, min, max, Bool, true, false, not, ◌&&◌, List, [], ◌∷◌, ◌++◌, length, sum_by, Option, Some, None, Result, Ok, Err, if◌then◌else◌, ◌==◌, nat_lt, nat_le}
 use Rattle.blk_base.specs.declared.ask.FrontAsk.{FrontAsk}
 use Rattle.blk_base.specs.declared.ask.FrontAsk.TheVariants.{Wait}
-use Rattle.blk_base.specs.declared.config.Job.{Job}
-use Rattle.blk_base.specs.declared.config.Job.TheVariants as jobs
+use Rattle.blk_base.specs.declared.config.Submission.{Submission}
+use Rattle.blk_base.specs.declared.config.Submission.TheVariants as submissions
 use Rattle.blk_front.specs.declared.request.Request.{Request}
 use Rattle.blk_front.specs.declared.request.Wish.{Wish}
 use Rattle.blk_front.specs.declared.request.Transfer.{Transfer}
@@ -11,8 +11,8 @@ use Rattle.blk_front.specs.declared.request.Transfer.TheVariants as transfer
 use Rattle.blk_front.specs.declared.stage.Ending.{Ending}
 use Rattle.blk_front.specs.declared.stage.FrontStage.{FrontStage}
 use Rattle.blk_front.specs.declared.stage.FrontStage.TheVariants as stage
-use Rattle.blk_front.specs.declared.told.Refusal.{Refusal}
-use Rattle.blk_front.specs.declared.told.Refusal.TheVariants as refusal
+use Rattle.blk_base.specs.declared.refusal.Refusal.{Refusal}
+use Rattle.blk_base.specs.declared.refusal.Refusal.TheVariants as refusal
 use Rattle.blk_front.specs.Pool.{taking}
 use Rattle.blk_front.specs.Request.{is_write, named_of, frames_for, pages_for, may_be_indirect}
 use Rattle.blk_front.specs.declared.state.Offers.{Offers}
@@ -70,12 +70,12 @@ sectors_owed v = sum_by (λ (r : Request). r.count) v.requests + (if ending_of v
 abbrev pub wished : Bool → Wish → Option Wish
 wished offered wish = if offered then Some wish else None
 
-abbrev pub wish_of : Offers → Job → Option Wish
-wish_of offers (jobs.Read sector count) = Some (record { sector = sector; count = count; transfer = transfer.Read })
-wish_of offers (jobs.Write sector count tag) = Some (record { sector = sector; count = count; transfer = transfer.Write tag })
-wish_of offers (jobs.Barrier sector count tag) = wished offers.barrier (record { sector = sector; count = count; transfer = transfer.Barrier tag })
-wish_of offers jobs.Flush = wished offers.flush (record { sector = 0; count = 0; transfer = transfer.Flush })
-wish_of offers (jobs.Discard sector count) = wished offers.discard (record { sector = sector; count = 0; transfer = transfer.Discard count })
+abbrev pub wish_of : Offers → Submission → Option Wish
+wish_of offers (submissions.Read sector count) = Some (record { sector = sector; count = count; transfer = transfer.Read })
+wish_of offers (submissions.Write sector count tag) = Some (record { sector = sector; count = count; transfer = transfer.Write tag })
+wish_of offers (submissions.Barrier sector count tag) = wished offers.barrier (record { sector = sector; count = count; transfer = transfer.Barrier tag })
+wish_of offers submissions.Flush = wished offers.flush (record { sector = 0; count = 0; transfer = transfer.Flush })
+wish_of offers (submissions.Discard sector count) = wished offers.discard (record { sector = sector; count = 0; transfer = transfer.Discard count })
 
 -- it waits until it is connected
 abbrev pub is_initialised : FrontStage → Bool
@@ -125,14 +125,14 @@ submit_with v wish (Some taken) = (Ok (v.last + 1), accepted v wish taken)
 abbrev pub submit_one : View → Option Wish → Result ℕ Refusal × View
 submit_one v None = (Err refusal.Unsupported, v)
 submit_one v (Some wish) =
-    if is_write wish.transfer && v.read_only then (Err refusal.ReadOnly, v)
-    else (if nat_lt v.sectors (wish.sector + named_of wish.transfer wish.count) then (Err refusal.Range, v)
+    if is_write wish.transfer && v.offers.read_only then (Err refusal.ReadOnly, v)
+    else (if nat_lt v.offers.sectors (wish.sector + named_of wish.transfer wish.count) then (Err refusal.Range, v)
     else (if nat_lt (most_segments v.offers wish.transfer) (frames_for wish.count) then (Err refusal.Long, v)
     else (if nat_le (entries_of v.shape.order) (unfinished v) then (Err refusal.Full, v)
     else submit_with v wish (taking (frames_taken wish.count) v.pool []))))
 
 -- the answer to a submission, and the front after it
-abbrev pub submit_of : View → Job → Result ℕ Refusal × View
+abbrev pub submit_of : View → Submission → Result ℕ Refusal × View
 submit_of v job =
     if v.last == 4294967295 then (Err refusal.Spent, v)
     else (if v.closing then (Err refusal.Closing, v)

@@ -18,10 +18,8 @@ pub record RingInfo : Type 0 where
   pub seen : ℕ
   pub entry : List ℕ
 
--- The front: the disk's sectors and whether it is read-only, and the ring's first index; what its back serves beside reads and writes; the shape of its ring; its ring and what it does; whether it closes; the last number given; the unfinished requests in order of number, of which the last `waiting` aren't issued yet; the request whose response was taken, until it is finished; the frames in use; the words of the sector being read; what is to be told.
+-- The front: the ring's first index; what its back published of its disk and of what it serves, as it read it; the shape of its ring; its ring and what it does; whether it closes; the last number given; the unfinished requests in order of number, of which the last `waiting` aren't issued yet; the request whose response was taken, until it is finished; the frames in use; the words of the sector being read; what is to be told.
 pub record View : Type 0 where
-  pub sectors : ℕ
-  pub read_only : Bool
   pub start : ℕ
   pub offers : Offers
   pub shape : Shape
@@ -73,15 +71,13 @@ fresh_word start k =
 abbrev pub next_request : View → Option Request
 next_request v = if v.waiting == 0 then None else slice_get v.requests (length v.requests - v.waiting)
 
--- a back that serves reads and writes alone
+-- nothing is read yet: a disk of no sectors, and a back that serves reads and writes alone
 abbrev pub no_offers : Offers
-no_offers = record { barrier = false; flush = false; discard = false; indirect = 0 }
+no_offers = record { sectors = 0; read_only = false; barrier = false; flush = false; discard = false; indirect = 0 }
 
 -- a front that makes its ring next
 abbrev pub start_of : Options → View
 start_of config = record {
-  sectors = config.sectors;
-  read_only = config.read_only;
   start = config.start;
   offers = no_offers;
   shape = record { abi = config.abi; order = config.order };

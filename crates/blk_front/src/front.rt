@@ -21,9 +21,9 @@ use crate::pool::{Pool, PoolFrame};
 use crate::request::{Request, Transfer, is_indirect};
 use crate::stage::{Ending, FrontStage};
 use crate::state::Offers;
-use crate::told::{Refusal, Told};
+use crate::told::Told;
 use arrayvec::ArrayVec;
-use blk_base::{Abi, Config, Endpoint, FrontAnswer, FrontAsk, Job, OutOfMemory};
+use blk_base::{Abi, Config, Endpoint, FrontAnswer, FrontAsk, OutOfMemory, Refusal, Submission};
 use blk_layout::{MOST_ENTRY_WORDS, request_words};
 use grant_table::GTF_PERMIT_ACCESS;
 use resume_shadow::Shadow;
@@ -47,8 +47,6 @@ struct RingInfo {
 /// and barriers, flushes and discards where its back serves them. After `new` it takes no memory.
 #[derive(Drop)]
 pub struct Front {
-    sectors: u64,
-    read_only: bool,
     start: u32,
     offers: Offers,
     abi: Abi,
@@ -80,7 +78,8 @@ impl Model for Front {
 }
 
 impl Front {
-    /// A front that makes its ring first. It fails only where there is not enough memory.
+    /// A front that makes its ring first, of the layout, the order and the first index of `config`. What it
+    /// knows of the disk it is told as it connects. It fails only where there is not enough memory.
     #[tactic(auto, using(crate::proofs::Shapes::few_pages))]
     pub fn new(alloc: Global, config: &Config) -> Result<Front, OutOfMemory>
         ensures { IfOk result (λ front. front ≡ start_of config.now) }
@@ -89,8 +88,6 @@ impl Front {
         let shape = RingShape::of(config.abi, config.order);
         let spare = SpareLists::new(alloc, shape.entries() + 1)?;
         Ok(Front {
-            sectors: config.sectors,
-            read_only: config.read_only,
             start: config.start,
             offers: Offers::none(),
             abi: config.abi,
@@ -437,7 +434,7 @@ impl<'a> Endpoint<'a> for Front {
 
     ghost asked = { ask_of };
 
-    ghost MayComplete = { λ front answer. IsAnswer (ask_of front) answer × (front.told ≡ None) };
+    ghost MayTell = { λ front answer. IsAnswer (ask_of front) answer × (front.told ≡ None) };
 
     #[inline(always)]
     #[tactic(auto, using(crate::proofs::Shapes::few_pages))]
@@ -481,7 +478,7 @@ impl<'a> Endpoint<'a> for Front {
     }
 
     #[inline(always)]
-    fn complete(&mut self, answer: &FrontAnswer<'a>) -> Result<(), OutOfMemory>
+    fn tell(&mut self, answer: &FrontAnswer<'a>) -> Result<(), OutOfMemory>
         requires { IsAnswer (ask_of self.old) answer.now × (self.old.told ≡ None) }
         ensures completed { self.new ≡ step_of self.old answer.now }
         ensures takes_no_memory { IsOk result }

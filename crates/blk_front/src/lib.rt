@@ -18,4 +18,4 @@ pub use pool::PoolFrame;
 pub use request::{Request, Transfer};
 pub use stage::{Ending, FrontStage};
 pub use state::{FrontState, Offers};
-pub use told::{Refusal, Told};
+pub use told::Told;

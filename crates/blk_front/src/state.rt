@@ -2,11 +2,14 @@
 ghost use Rattle.std.specs.Prelude.{◌≡◌};
 ghost use Rattle.blk_front.specs.View.{no_offers};
 
-/// What the back serves beside reads and writes, as it published it (`feature-barrier`,
-/// `feature-flush-cache` and `feature-discard` of `io/blkif.h`), and how many segments it takes in
-/// indirect pages, 0 where it takes none (`feature-max-indirect-segments`).
+/// What the back published, as it was read (`io/blkif.h`): its disk's sectors of 512 bytes (`sectors`)
+/// and whether it is read-only (`info`), what it serves beside reads and writes (`feature-barrier`,
+/// `feature-flush-cache` and `feature-discard`), and how many segments it takes in indirect pages, 0
+/// where it takes none (`feature-max-indirect-segments`).
 #[derive(Clone, Copy, Debug, PartialEq, Eq)]
 pub struct Offers {
+    pub sectors: u64,
+    pub read_only: bool,
     pub barrier: bool,
     pub flush: bool,
     pub discard: bool,
@@ -14,11 +17,13 @@ pub struct Offers {
 }
 
 impl Offers {
-    /// Reads and writes alone.
+    /// Nothing is read yet: a disk of no sectors, and reads and writes alone.
     pub fn none() -> Offers
         ensures { result ≡ no_offers }
     {
         Offers {
+            sectors: 0,
+            read_only: false,
             barrier: false,
             flush: false,
             discard: false,
@@ -32,8 +37,8 @@ impl Offers {
 pub enum FrontState {
     /// Its ring has this order, 0 to 4, no greater than it wished: the order is agreed with the back.
     Agreed(u32),
-    /// Its ring and its port are used from now on (XenbusStateConnected), and its back serves these
-    /// requests beside reads and writes.
+    /// Its ring and its port are used from now on (XenbusStateConnected), over a back that published
+    /// this of its disk and of what it serves.
     Connected(Offers),
     /// It takes no more requests (XenbusStateClosing is written once it has none left).
     Closing,

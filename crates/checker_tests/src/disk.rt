@@ -1,8 +1,8 @@
 // Reports by hand, and whether each line can stand on the plain disk.
 use crate::given::line_of;
-use blk_base::Job;
+use blk_base::{Job, Refusal};
 use plain_disk::{PlainDisk, Sight, Stand};
-use schedule_text::{Line, Refusal};
+use schedule_text::Line;
 use std::alloc::Global;
 use std::process::Abort;
 
@@ -169,7 +169,7 @@ fn the_lines_of_a_report_stand_where_the_disk_takes_their_steps(rt: HostRuntime)
 // Lines that were seen, how often a request was submitted, and how it is then refused.
 type Submission = (&'static str, u64, &'static str, Option<Refusal>);
 
-fn read_job(rt: &impl Abort, text: &str) -> Job {
+fn read_job(rt: &impl Abort, text: &str) -> Submission {
     match line_of(rt, text) {
         Line::Submit { job, .. } => job,
         _ => panic!(rt; "no submission: {text}"),
@@ -184,11 +184,11 @@ fn seen(rt: &impl Abort, lines: &str) -> Sight {
     sight
 }
 
-fn submission(id: u64, job: &Job) -> Line {
+fn submission(id: u64, job: &Submission) -> Line {
     Line::Submit { id, job: *job }
 }
 
-fn submitted(rt: &impl Abort, alloc: Global, count: u64, job: &Job) -> PlainDisk {
+fn submitted(rt: &impl Abort, alloc: Global, count: u64, job: &Submission) -> PlainDisk {
     let mut disk = PlainDisk::new(alloc, Vec::new(alloc));
     for id in 0..count {
         let line = submission(id.wrapping_add(1), job);

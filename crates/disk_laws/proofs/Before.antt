@@ -3,7 +3,7 @@ use Rattle.std.proofs.Common.{◌≡◌, ℕ, zero, suc, List, [], ◌∷◌, �
 use Rattle.std.specs.Prelude.{Option, Some, None, IsSomeAnd, slice_get}
 use Rattle.std.proofs.lemmas.Option.{none-some}
 use Rattle.blk_base.specs.Options.{Options}
-use Rattle.blk_base.specs.declared.config.Job.{Job}
+use Rattle.blk_base.specs.declared.config.Submission.{Submission}
 use Rattle.blk_io.specs.Disk.{DiskSeen, HasLength}
 use Rattle.schedule_text.specs.declared.line.Detail.{Detail}
 use Rattle.schedule_text.specs.declared.line.Line.{Line}
@@ -32,11 +32,11 @@ use Rattle.disk_laws.proofs.Runs.{HasRun}
 use Rattle.disk_laws.proofs.Reports.{report_run, ended_run}
 
 -- a run whose report is this, and which submits the first of these requests
-pub record HasRunSoFar (jobs : List Job) (before : Option (List (List ℕ))) (report : List Line) : Type 0 where
+pub record HasRunSoFar (submissions : List Submission) (before : Option (List (List ℕ))) (report : List Line) : Type 0 where
   pub run : PipelineRun
   pub report_same : run_report run ≡ report
-  pub more : List Job
-  pub submits : steps_submit run.steps ++ more ≡ jobs
+  pub more : List Submission
+  pub submits : steps_submit run.steps ++ more ≡ submissions
   pub from : run.before ≡ before
 
 kept_part : (config : Options) (detail : Detail) (history : List Happening) (last : Happening) (part : List Line) (before : Option (List (List ℕ))) → IsPartRun config history last part before
@@ -47,7 +47,7 @@ kept_part config detail history last part before r =
       run = k.kept;
       report_same = k.report ∙ ap (λ (ls : List Line). kept_of detail (lines.Begin config detail ∷ ls)) r.shows;
       more = r.more;
-      submits = ap (λ (js : List Job). js ++ r.more) k.submitted ∙ r.submits;
+      submits = ap (λ (js : List Submission). js ++ r.more) k.submitted ∙ r.submits;
       from = k.before;
     }
   where
@@ -95,34 +95,34 @@ ended_report config detail history before now plain may long runs of =
 pub run_so_far : (sectors : ℕ) (before now : Option (List (List ℕ))) (report : List Line) → IsRun sectors before now report → IsRunSoFar before report
 run_so_far sectors before now report h = record { first = h.first; begins = h.begins; disk = h.disk; run = h.run }
 
-pub begun_run : (jobs : List Job) (before : Option (List (List ℕ))) (report : List Line) → HasRunSoFar jobs before report → IsRunSoFar before report
-begun_run jobs before report h =
+pub begun_run : (submissions : List Submission) (before : Option (List (List ℕ))) (report : List Line) → HasRunSoFar submissions before report → IsRunSoFar before report
+begun_run submissions before report h =
     let r = h.run in
     subst (λ (b : Option (List (List ℕ))). IsRunSoFar b report) h.from (subst (IsRunSoFar r.before) h.report_same (run_so_far r.options.sectors r.before r.now (run_report r) (report_runs r)))
 
 -- what is submitted later changes no answer
-get_before : (jobs more : List Job) (n : ℕ) (job : Job) → slice_get jobs n ≡ Some job → slice_get (jobs ++ more) n ≡ Some job
-get_before [] more n job e = absurd (none-some job e)
-get_before (j ∷ jobs) more zero job e = e
-get_before (j ∷ jobs) more (suc n) job e = get_before jobs more n job e
+get_before : (submissions more : List Submission) (n : ℕ) (submission : Submission) → slice_get submissions n ≡ Some submission → slice_get (submissions ++ more) n ≡ Some submission
+get_before [] more n submission e = absurd (none-some submission e)
+get_before (j ∷ submissions) more zero submission e = e
+get_before (j ∷ submissions) more (suc n) submission e = get_before submissions more n submission e
 
-refused_later : (jobs more : List Job) (n : ℕ) (F : Job → Type 0) → IsSomeAnd (slice_get jobs n) F → IsSomeAnd (slice_get (jobs ++ more) n) F
-refused_later jobs more n F is = by_place (slice_get jobs n) refl
+refused_later : (submissions more : List Submission) (n : ℕ) (F : Submission → Type 0) → IsSomeAnd (slice_get submissions n) F → IsSomeAnd (slice_get (submissions ++ more) n) F
+refused_later submissions more n F is = by_place (slice_get submissions n) refl
   where
-    by_place : (x : Option Job) → slice_get jobs n ≡ x → IsSomeAnd (slice_get (jobs ++ more) n) F
-    by_place None e = absurd (subst (λ (y : Option Job). IsSomeAnd y F) e is)
-    by_place (Some job) e = subst (λ (y : Option Job). IsSomeAnd y F) (sym (get_before jobs more n job e)) (subst (λ (y : Option Job). IsSomeAnd y F) e is)
+    by_place : (x : Option Submission) → slice_get submissions n ≡ x → IsSomeAnd (slice_get (submissions ++ more) n) F
+    by_place None e = absurd (subst (λ (y : Option Submission). IsSomeAnd y F) e is)
+    by_place (Some submission) e = subst (λ (y : Option Submission). IsSomeAnd y F) (sym (get_before submissions more n submission e)) (subst (λ (y : Option Submission). IsSomeAnd y F) e is)
 
-answer_later : (jobs more : List Job) (before : List Line) (line : Line) → IsAnswerAt jobs before line → IsAnswerAt (jobs ++ more) before line
-answer_later jobs more before (lines.Submit id job) is = (get_before jobs more (answer_count before) job is.0, is.1)
-answer_later jobs more before (lines.Refuse refusal) is = refused_later jobs more (answer_count before) (λ job. refusal_of before job ≡ Some refusal) is
-answer_later jobs more before line is = tt
+answer_later : (submissions more : List Submission) (before : List Line) (line : Line) → IsAnswerAt submissions before line → IsAnswerAt (submissions ++ more) before line
+answer_later submissions more before (lines.Submit id submission) is = (get_before submissions more (answer_count before) submission is.0, is.1)
+answer_later submissions more before (lines.Refuse refusal) is = refused_later submissions more (answer_count before) (λ submission. refusal_of before submission ≡ Some refusal) is
+answer_later submissions more before line is = tt
 
 -- each submission is answered by the rule
-pub begun_answered : (jobs : List Job) (before : Option (List (List ℕ))) (report : List Line) → HasRunSoFar jobs before report → Obeys (IsAnswerAt jobs) report
-begun_answered jobs before report h = subst (λ (js : List Job). Obeys (IsAnswerAt js) report) h.submits later
+pub begun_answered : (submissions : List Submission) (before : Option (List (List ℕ))) (report : List Line) → HasRunSoFar submissions before report → Obeys (IsAnswerAt submissions) report
+begun_answered submissions before report h = subst (λ (js : List Submission). Obeys (IsAnswerAt js) report) h.submits later
   where
-    now : List Job
+    now : List Submission
     now = (let r = h.run in steps_submit r.steps)
 
     answered : AreAnswered now report
@@ -132,15 +132,15 @@ begun_answered jobs before report h = subst (λ (js : List Job). Obeys (IsAnswer
     later first rest line e = answer_later now h.more first line (answered.rightly first rest line e)
 
 -- each request once, and where `quiet` stands each one
-pub begun_once : (jobs : List Job) (before : Option (List (List ℕ))) (report : List Line) → HasRunSoFar jobs before report → AreAnsweredOnce report
-begun_once jobs before report h = subst AreAnsweredOnce h.report_same (report_answers_once h.run)
+pub begun_once : (submissions : List Submission) (before : Option (List (List ℕ))) (report : List Line) → HasRunSoFar submissions before report → AreAnsweredOnce report
+begun_once submissions before report h = subst AreAnsweredOnce h.report_same (report_answers_once h.run)
 
-pub begun_at_quiet : (jobs : List Job) (before : Option (List (List ℕ))) (report : List Line) → HasRunSoFar jobs before report → IsQuietAnswered report
-begun_at_quiet jobs before report h = subst IsQuietAnswered h.report_same (report_answers_at_quiet h.run)
+pub begun_at_quiet : (submissions : List Submission) (before : Option (List (List ℕ))) (report : List Line) → HasRunSoFar submissions before report → IsQuietAnswered report
+begun_at_quiet submissions before report h = subst IsQuietAnswered h.report_same (report_answers_at_quiet h.run)
 
 -- nothing is broken, and the front's state is as the lines say
-pub begun_unbroken : (jobs : List Job) (before : Option (List (List ℕ))) (report : List Line) → HasRunSoFar jobs before report → IsUnbroken report
-begun_unbroken jobs before report h = subst IsUnbroken h.report_same (report_unbroken h.run)
+pub begun_unbroken : (submissions : List Submission) (before : Option (List (List ℕ))) (report : List Line) → HasRunSoFar submissions before report → IsUnbroken report
+begun_unbroken submissions before report h = subst IsUnbroken h.report_same (report_unbroken h.run)
 
-pub begun_states : (jobs : List Job) (before : Option (List (List ℕ))) (report : List Line) → HasRunSoFar jobs before report → AreStates report
-begun_states jobs before report h = subst AreStates h.report_same (report_states h.run)
+pub begun_states : (submissions : List Submission) (before : Option (List (List ℕ))) (report : List Line) → HasRunSoFar submissions before report → AreStates report
+begun_states submissions before report h = subst AreStates h.report_same (report_states h.run)

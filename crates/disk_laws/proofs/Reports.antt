@@ -2,7 +2,7 @@
 use Rattle.std.proofs.Common.{ℕ, List, [], ◌∷◌, ◌++◌, subst}
 use Rattle.std.specs.Prelude.{Option}
 use Rattle.blk_base.specs.Options.{Options}
-use Rattle.blk_base.specs.declared.config.Job.{Job}
+use Rattle.blk_base.specs.declared.config.Submission.{Submission}
 use Rattle.blk_io.specs.Disk.{DiskSeen, HasLength}
 use Rattle.schedule_text.specs.declared.line.Detail.{Detail}
 use Rattle.schedule_text.specs.declared.line.Line.{Line}
@@ -59,7 +59,7 @@ ended_reports_run config detail history a b plain may long runs of = plain_run c
 
 -- the submissions, answered by the rule
 answered : (config : Options) (history : List Happening) (before now : Option (List (List ℕ))) (report : List Line) → HasRun config history before now report → AreAnswered (submitted_of history) report
-answered config history before now report h = subst (λ (jobs : List Job). AreAnswered jobs report) h.submits (subst (AreAnswered _) h.report_same (report_answers h.run))
+answered config history before now report h = subst (λ (submissions : List Submission). AreAnswered submissions report) h.submits (subst (AreAnswered _) h.report_same (report_answers h.run))
 
 pub reports_answered : (config : Options) (detail : Detail) (history : List Happening) (a b : DiskSeen) → IsPlain config → AreServed history (start_of config) → HasLength a.content config.sectors → DiskRuns history (start_of config) a b
     → IsOfADisk config.sectors a.content (kept_of detail (report_of config detail history))

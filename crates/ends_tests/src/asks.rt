@@ -1,7 +1,6 @@
 // What a back and its jobs ask and are answered, without what is lent, so that the steps of a script are
 // constants.
-use blk_back::Halt;
-use blk_base::{BackAnswer, BackAsk, Mapping, Mode};
+use blk_base::{BackAnswer, BackAsk, Halt, Mapping, Mode};
 
 /// What is asked, its numbers in the order of `BackAsk`.
 #[derive(Clone, Copy)]

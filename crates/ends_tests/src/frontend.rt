@@ -2,7 +2,7 @@
 mod data;
 mod script;
 
-use blk_front::Refusal;
+use blk_base::Refusal;
 use script::{Ask, Step, plays};
 use xenbus_state::FrontNews;
 
@@ -93,6 +93,57 @@ fn a_front_that_wishes_for_more_pages_has_as_many_as_are_offered(rt: HostRuntime
             READS,
             &[Step::Gets(&[("max-ring-page-order", "0")])],
             PUBLISHES,
+        ],
+    );
+}
+
+// It reads, as the back connects, that the disk has no sectors, or one that is read-only; it was
+// constructed for a disk of 8 sectors that may be written.
+const NO_SECTORS: &[Step<'static>] = &[
+    Step::Sees("4"),
+    Step::Gets(&[("sectors", "0"), ("sector-size", "512"), ("info", "0")]),
+    Step::Says("4", Some(FrontNews::Ready)),
+];
+
+const READ_ONLY: &[Step<'static>] = &[
+    Step::Sees("4"),
+    Step::Gets(&[("sectors", "1"), ("sector-size", "512"), ("info", "4")]),
+    Step::Says("4", Some(FrontNews::Ready)),
+];
+
+#[test]
+fn a_front_refuses_by_the_sectors_that_it_read(rt: HostRuntime) {
+    plays(
+        &rt,
+        rt.alloc(),
+        0,
+        &[
+            &[Step::Watches],
+            READS,
+            READS_ORDER,
+            PUBLISHES,
+            NO_SECTORS,
+            &[
+                Step::Writing(Err(Refusal::Range)),
+                Step::Reading(Err(Refusal::Range)),
+            ],
+        ],
+    );
+}
+
+#[test]
+fn a_front_refuses_writes_to_a_disk_that_it_read_to_be_read_only(rt: HostRuntime) {
+    plays(
+        &rt,
+        rt.alloc(),
+        0,
+        &[
+            &[Step::Watches],
+            READS,
+            READS_ORDER,
+            PUBLISHES,
+            READ_ONLY,
+            &[Step::Writing(Err(Refusal::ReadOnly)), Step::Reading(Ok(1))],
         ],
     );
 }

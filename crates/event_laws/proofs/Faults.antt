@@ -30,7 +30,7 @@ use Rattle.back_jobs.specs.Work.{Work, page_ask, map_ask, ask_at}
 use Rattle.back_jobs.specs.Jobs.{HeldJobs, asked, ask_job, waits, work_of, effect_at, effect_of}
 use Rattle.blk_back.specs.declared.told.BackTold.{BackTold}
 use Rattle.blk_back.specs.declared.told.BackTold.TheVariants as told
-use Rattle.blk_back.specs.declared.told.Halt.{Halt}
+use Rattle.blk_base.specs.declared.halt.Halt.{Halt}
 use Rattle.blk_back.specs.declared.stage.BackStage.{BackStage}
 use Rattle.blk_back.specs.declared.stage.BackStage.TheVariants as back_stage
 use Rattle.blk_back.specs.View.{View}

@@ -11,8 +11,8 @@ mod script;
 mod shapes;
 mod suspend;
 
-use blk_base::Config;
-use blk_front::{FrontState, Refusal};
+use blk_base::{Config, Refusal};
+use blk_front::{FrontState, Offers};
 use script::{Ask, EIGHT, NOTHING, News, Step, Work, plays};
 use std::alloc::Global;
 use std::process::Abort;
@@ -186,6 +186,39 @@ fn a_write_to_a_read_only_disk_is_refused(rt: HostRuntime) {
             Step::Refuses(Work::Write(8, 1, 7), Refusal::ReadOnly),
             Step::Refuses(Work::Read(8, 1), Refusal::Range),
             Step::Takes(Work::Read(7, 1), 1),
+        ],
+    );
+}
+
+// It connects over a back that published a disk of so many sectors, writable or not.
+fn over(sectors: u64, read_only: bool) -> Step<'static> {
+    Step::Enters(
+        FrontState::Connected(Offers {
+            sectors,
+            read_only,
+            ..NOTHING
+        }),
+        true,
+    )
+}
+
+#[test]
+fn it_refuses_by_the_disk_that_it_connected_with_in_each_epoch(rt: HostRuntime) {
+    plays(
+        &rt,
+        rt.alloc(),
+        &EIGHT,
+        &[
+            Step::Moves(20),
+            over(9, true),
+            Step::Refuses(Work::Write(0, 1, 7), Refusal::ReadOnly),
+            Step::Refuses(Work::Read(9, 1), Refusal::Range),
+            Step::Suspends,
+            Step::Refuses(Work::Read(0, 1), Refusal::NotReady),
+            Step::Moves(20),
+            over(4, false),
+            Step::Refuses(Work::Write(4, 1, 7), Refusal::Range),
+            Step::Takes(Work::Write(3, 1, 7), 1),
         ],
     );
 }

@@ -3,3 +3,4 @@ pub mod Act
 pub mod May
 pub mod Disk
 pub mod Suspend
+pub mod Does

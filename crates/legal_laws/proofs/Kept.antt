@@ -4,10 +4,10 @@ use Rattle.std.specs.Prelude.{Option, Some, None, option_and_then, slice_get, fo
 use Rattle.std.specs.List.{list_all}
 use Rattle.std.proofs.lemmas.Option.{cond_some, option_and_then_some}
 use Rattle.std.proofs.lemmas.Bool.Decides.{nat_tests}
-use Rattle.blk_base.specs.declared.config.Job.{Job}
-use Rattle.schedule_text.specs.declared.line.Halt.{Halt}
-use Rattle.schedule_text.specs.declared.line.Halt.TheVariants as halts
-use Rattle.schedule_text.specs.declared.line.Refusal.{Refusal}
+use Rattle.blk_base.specs.declared.config.Submission.{Submission}
+use Rattle.blk_base.specs.declared.halt.Halt.{Halt}
+use Rattle.blk_base.specs.declared.halt.Halt.TheVariants as halts
+use Rattle.blk_base.specs.declared.refusal.Refusal.{Refusal}
 use Rattle.schedule_text.specs.declared.line.Line.{Line}
 use Rattle.schedule_text.specs.declared.line.Line.TheVariants as lines
 use Rattle.plain_disk.specs.declared.sight.Sight.{Sight}
@@ -73,25 +73,25 @@ state_kept before line unbroken state settled = refl
 
 -- ---- submissions
 
-submit_kept : (jobs : List Job) (before : List Line) (line : Line) → StandsAfter before line [] → IsAnswerAt jobs before line → IsSubmitAt before line
+submit_kept : (jobs : List Submission) (before : List Line) (line : Line) → StandsAfter before line [] → IsAnswerAt jobs before line → IsSubmitAt before line
 submit_kept jobs before (lines.Submit id job) stands answer =
     let test = (cond_some (id == length stands.disk.requests + 1) _ stands.next stands.taken).0 in
     let next : id ≡ length stands.disk.requests + 1 = grind (arith, nat_tests) in
     (next ∙ ap (λ (o : Option Disk). length (requests_in o) + 1) (sym stands.run), answer.1)
 submit_kept jobs before line stands answer = tt
 
-refused_by : (jobs : List Job) (before : List Line) (refusal : Refusal) (number : ℕ) (found : Option Job) → slice_get jobs number ≡ found → All CanBeAsked jobs
-    → IsSomeAnd found (λ (job : Job). refusal_of before job ≡ Some refusal) → IsRefuseAt before (lines.Refuse refusal)
+refused_by : (jobs : List Submission) (before : List Line) (refusal : Refusal) (number : ℕ) (found : Option Submission) → slice_get jobs number ≡ found → All CanBeAsked jobs
+    → IsSomeAnd found (λ (job : Submission). refusal_of before job ≡ Some refusal) → IsRefuseAt before (lines.Refuse refusal)
 refused_by jobs before refusal number None at asked answer = absurd answer
 refused_by jobs before refusal number (Some job) at asked answer = (job, all_at CanBeAsked jobs number job asked at, answer)
 
-refuse_kept : (jobs : List Job) (before : List Line) (line : Line) → All CanBeAsked jobs → IsAnswerAt jobs before line → IsRefuseAt before line
+refuse_kept : (jobs : List Submission) (before : List Line) (line : Line) → All CanBeAsked jobs → IsAnswerAt jobs before line → IsRefuseAt before line
 refuse_kept jobs before (lines.Refuse refusal) asked answer = refused_by jobs before refusal (answer_count before) (slice_get jobs (answer_count before)) refl asked answer
 refuse_kept jobs before line asked answer = tt
 
 -- ---- all ten
 
-pub so_far_kept : (jobs : List Job) (first : List (List ℕ)) (d : Disk) (report : List Line) → after report (disk_of first) ≡ Some d → Obeys (IsAnswerAt jobs) report → AreStates report → All CanBeAsked jobs → IsSettled report
+pub so_far_kept : (jobs : List Submission) (first : List (List ℕ)) (d : Disk) (report : List Line) → after report (disk_of first) ≡ Some d → Obeys (IsAnswerAt jobs) report → AreStates report → All CanBeAsked jobs → IsSettled report
     → Obeys KeepsRequests report
 so_far_kept jobs first d report run answers states asked settled =
     let unknown = known_is_unknown report first d run in
@@ -100,6 +100,6 @@ so_far_kept jobs first d report run answers states asked settled =
     (λ before rest line is. submit_kept jobs before line (stands_after report before rest line [] (forgetting d) unknown is) (answers before rest line is))
     (λ before rest line is. refuse_kept jobs before line asked (answers before rest line is))
 
-pub run_kept : (jobs : List Job) (sectors : ℕ) (before now : Option (List (List ℕ))) (report : List Line) → IsRun sectors before now report → AreAnswered jobs report → AreStates report → All CanBeAsked jobs → IsSettled report
+pub run_kept : (jobs : List Submission) (sectors : ℕ) (before now : Option (List (List ℕ))) (report : List Line) → IsRun sectors before now report → AreAnswered jobs report → AreStates report → All CanBeAsked jobs → IsSettled report
     → Obeys KeepsRequests report
 run_kept jobs sectors before now report r answered states asked settled = so_far_kept jobs r.first r.disk report r.run answered.rightly states asked settled

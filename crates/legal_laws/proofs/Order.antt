@@ -5,7 +5,7 @@ use Rattle.std.specs.List.{list_any}
 use Rattle.std.proofs.lemmas.List.Folds.{list_any-append}
 use Rattle.std.proofs.lemmas.Map.Views.{any-filter_same}
 use Rattle.blk_base.specs.Options.{Options}
-use Rattle.blk_base.specs.declared.config.Job.{Job}
+use Rattle.blk_base.specs.declared.config.Submission.{Submission}
 use Rattle.schedule_text.specs.declared.event.Event.{Event}
 use Rattle.schedule_text.specs.declared.event.Event.TheVariants as events
 use Rattle.schedule_text.specs.declared.line.Detail.{Detail}
@@ -25,7 +25,7 @@ use Rattle.legal_laws.proofs.Lists.{all_there, all_before}
 one_line : (answer : List Line) (line : Line) → answer ≡ line ∷ [] → is_end line ≡ false → list_any is_end answer ≡ false
 one_line answer line is other = ap (list_any is_end) is ∙ ap (λ (b : Bool). b || false) other
 
-submit_line : (job : Job) (line : Line) → AnswersSubmit job line → is_end line ≡ false
+submit_line : (job : Submission) (line : Line) → AnswersSubmit job line → is_end line ≡ false
 submit_line job lines.End answer = absurd answer
 submit_line job line answer = refl
 

@@ -7,8 +7,8 @@ use Rattle.std.proofs.lemmas.Bool.Decides.{nat_tests}
 use Rattle.std.proofs.lemmas.List.Elements.{All-weaker}
 use Rattle.std.proofs.lemmas.List.Sums.{AllPass-from_list_all}
 use Rattle.std.proofs.lemmas.Fmt.{length-decimal-le}
-use Rattle.blk_base.specs.declared.config.Job.{Job}
-use Rattle.blk_base.specs.declared.config.Job.TheVariants as jobs
+use Rattle.blk_base.specs.declared.config.Submission.{Submission}
+use Rattle.blk_base.specs.declared.config.Submission.TheVariants as submissions
 use Rattle.blk_base.specs.declared.moves.BackMover.{BackMover}
 use Rattle.blk_base.specs.declared.moves.BackMover.TheVariants as back_mover
 use Rattle.blk_base.specs.declared.moves.Mover.{Mover}
@@ -19,11 +19,11 @@ use Rattle.line_text.proofs.Both.{both_true}
 use Rattle.line_text.specs.Words.{joined, spaced}
 use Rattle.line_text.specs.Numbers.{hex8}
 use Rattle.line_text.specs.Sector.{IsSector, sector_words, byte_digits, word_digits, are_all}
-use Rattle.schedule_text.specs.declared.line.Halt.{Halt}
-use Rattle.schedule_text.specs.declared.line.Halt.TheVariants as halts
+use Rattle.blk_base.specs.declared.halt.Halt.{Halt}
+use Rattle.blk_base.specs.declared.halt.Halt.TheVariants as halts
 use Rattle.schedule_text.specs.declared.line.Line.{Line}
 use Rattle.schedule_text.specs.declared.line.Line.TheVariants as lines
-use Rattle.schedule_text.specs.Line.{words_of, text_of, job_words, halt_words, mover_words, back_words, mode_word, move_words}
+use Rattle.schedule_text.specs.Line.{words_of, text_of, submission_words, halt_words, mover_words, back_words, mode_word, move_words}
 use Rattle.schedule_text.specs.Range.{IsInRange}
 use Rattle.report_lines.specs.Text.{HasNoLineFeed}
 use Rattle.report_laws.proofs.Inline.{is_inline, inline_of}
@@ -32,8 +32,8 @@ use Rattle.schedule_text.proofs.Narrow.{shows_sector, narrow_line}
 
 -- ---- how many
 
-few_job : (job : Job) → length (job_words job) ≤ 4
-few_job (jobs.Read s c) = omega arith
+few_job : (job : Submission) → length (submission_words job) ≤ 4
+few_job (submissions.Read s c) = omega arith
 few_job job = omega arith
 
 few_halt : (halt : Halt) → length (halt_words halt) ≤ 3

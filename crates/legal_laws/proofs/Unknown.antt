@@ -3,7 +3,7 @@ use Rattle.std.proofs.Common.{◌≡◌, ◌⊎◌, inl, inr, ℕ, ◌+◌, ◌=
 use Rattle.std.specs.Prelude.{Option, Some, None, option_and_then, slice_get, fold, is_none}
 use Rattle.std.specs.List.{list_all}
 use Rattle.std.proofs.lemmas.Option.{none-some, cond_some, option_and_then_some}
-use Rattle.blk_base.specs.declared.config.Job.{Job}
+use Rattle.blk_base.specs.declared.config.Submission.{Submission}
 use Rattle.blk_base.specs.declared.operation.Status.{Status}
 use Rattle.schedule_text.specs.declared.line.Line.{Line}
 use Rattle.schedule_text.specs.declared.line.Line.TheVariants as lines
@@ -35,7 +35,7 @@ may_hold_less : (less known : Option (List ℕ)) (words : List ℕ) → IsLess l
 may_hold_less less known words (inl none) may = ap (λ (x : Option (List ℕ)). may_hold x words) none
 may_hold_less less known words (inr same) may = ap (λ (x : Option (List ℕ)). may_hold x words) same ∙ may
 
-may_hold_unknown : (first : List (List ℕ)) (written : List Written) (job : Job) (index : ℕ) (words : List ℕ) → may_hold (place_words first written job index) words ≡ true
+may_hold_unknown : (first : List (List ℕ)) (written : List Written) (job : Submission) (index : ℕ) (words : List ℕ) → may_hold (place_words first written job index) words ≡ true
     → may_hold (place_words [] written job index) words ≡ true
 may_hold_unknown first written job index words may = may_hold_less (place_words [] written job index) (place_words first written job index) words (less_written written (sector_of job + index) None (slice_get first (sector_of job + index)) (inl refl)) may
 
@@ -56,26 +56,26 @@ and_second false b c both then_c = both
 read_forgets : (d e : Disk) (id index : ℕ) (words : List ℕ) (o : Option DiskRequest) → read_of d id index words o ≡ Some e → read_of (forgetting d) id index words o ≡ Some (forgetting e)
 read_forgets d e id index words None is = absurd (none-some e is)
 read_forgets d e id index words (Some r) is =
-    let both = cond_some (is_read r.job && may_serve d.done id r index && may_hold (place_words d.first d.written r.job index) words) _ e is in
-    let may : (is_read r.job && may_serve d.done id r index && may_hold (place_words [] d.written r.job index) words) ≡ true =
-    and_second (is_read r.job && may_serve d.done id r index) _ _ both.0 (λ may. may_hold_unknown d.first d.written r.job index words may) in
+    let both = cond_some (is_read r.submission && may_serve d.done id r index && may_hold (place_words d.first d.written r.submission index) words) _ e is in
+    let may : (is_read r.submission && may_serve d.done id r index && may_hold (place_words [] d.written r.submission index) words) ≡ true =
+    and_second (is_read r.submission && may_serve d.done id r index) _ _ both.0 (λ may. may_hold_unknown d.first d.written r.submission index words may) in
     rw may (ap (λ (x : Disk). Some (forgetting x)) both.1)
 
 effect_forgets : (d e : Disk) (id index : ℕ) (o : Option DiskRequest) → effect_of d id index o ≡ Some e → effect_of (forgetting d) id index o ≡ Some (forgetting e)
 effect_forgets d e id index None is = absurd (none-some e is)
-effect_forgets d e id index (Some r) is = forgets (is_write r.job && may_serve d.done id r index && is_in_order d id r) _ e is
+effect_forgets d e id index (Some r) is = forgets (is_write r.submission && may_serve d.done id r index && is_in_order d id r) _ e is
 
 flush_forgets : (d e : Disk) (id : ℕ) (o : Option DiskRequest) → flushed_of d id o ≡ Some e → flushed_of (forgetting d) id o ≡ Some (forgetting e)
 flush_forgets d e id None is = absurd (none-some e is)
-flush_forgets d e id (Some r) is = forgets (is_flush r.job && may_serve d.done id r 0) _ e is
+flush_forgets d e id (Some r) is = forgets (is_flush r.submission && may_serve d.done id r 0) _ e is
 
 trim_forgets : (d e : Disk) (id : ℕ) (o : Option DiskRequest) → trimmed_of d id o ≡ Some e → trimmed_of (forgetting d) id o ≡ Some (forgetting e)
 trim_forgets d e id None is = absurd (none-some e is)
-trim_forgets d e id (Some r) is = forgets (is_discard r.job && may_serve d.done id r 0 && is_in_order d id r) _ e is
+trim_forgets d e id (Some r) is = forgets (is_discard r.submission && may_serve d.done id r 0 && is_in_order d id r) _ e is
 
 fault_forgets : (d e : Disk) (id index : ℕ) (o : Option DiskRequest) → fault_of d id index o ≡ Some e → fault_of (forgetting d) id index o ≡ Some (forgetting e)
 fault_forgets d e id index None is = absurd (none-some e is)
-fault_forgets d e id index (Some r) is = forgets (may_serve d.done id r index && (not (is_ordered r.job) || is_in_order d id r)) _ e is
+fault_forgets d e id index (Some r) is = forgets (may_serve d.done id r index && (not (is_ordered r.submission) || is_in_order d id r)) _ e is
 
 reply_forgets : (d e : Disk) (id : ℕ) (status : Status) (o : Option DiskRequest) → replied_of d id status o ≡ Some e → replied_of (forgetting d) id status o ≡ Some (forgetting e)
 reply_forgets d e id status None is = absurd (none-some e is)

@@ -1,6 +1,6 @@
 -- What a run promises of its requests, and the rules on them (`io/blkif.h`, `io/xenbus.h`).
 use Rattle.std.specs.Prelude.{◌≡◌, ℕ, Bool, true, false, List, Option, Some, All}
-use Rattle.blk_base.specs.declared.config.Job.{Job}
+use Rattle.blk_base.specs.declared.config.Submission.{Submission}
 use Rattle.schedule_text.specs.declared.line.Line.{Line}
 use Rattle.schedule_text.specs.declared.line.Line.TheVariants as lines
 use Rattle.plain_disk.specs.Disk.{Disk, disk_of}
@@ -21,12 +21,12 @@ IsSettled report = All (λ (line : Line). is_unsettled line ≡ false) report
 
 -- a report so far: it answers these submissions, each of which can be asked for
 abbrev pub RunSoFarIsKept : Type 0
-RunSoFarIsKept = (jobs : List Job) (first : List (List ℕ)) (d : Disk) (report : List Line)
+RunSoFarIsKept = (jobs : List Submission) (first : List (List ℕ)) (d : Disk) (report : List Line)
     → after report (disk_of first) ≡ Some d → Obeys (IsAnswerAt jobs) report → AreStates report → All CanBeAsked jobs → IsSettled report
     → Obeys KeepsRequests report
 
 -- a whole one
 abbrev pub RunIsKept : Type 0
-RunIsKept = (jobs : List Job) (sectors : ℕ) (before now : Option (List (List ℕ))) (report : List Line)
+RunIsKept = (jobs : List Submission) (sectors : ℕ) (before now : Option (List (List ℕ))) (report : List Line)
     → IsRun sectors before now report → AreAnswered jobs report → AreStates report → All CanBeAsked jobs → IsSettled report
     → Obeys KeepsRequests report

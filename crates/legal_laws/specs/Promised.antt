@@ -1,14 +1,14 @@
 -- What a run promises of its report makes it one that a check finds legal (`io/ring.h`, `io/blkif.h`, `io/xenbus.h`, `grant_table.h`).
 use Rattle.std.specs.Prelude.{◌≡◌, ℕ, List, ◌∷◌, filter, Some, Result, All}
 use Rattle.blk_base.specs.Options.{Options}
-use Rattle.blk_base.specs.declared.config.Job.{Job}
+use Rattle.blk_base.specs.declared.config.Submission.{Submission}
 use Rattle.blk_io.specs.Outside.{SourceSeen}
 use Rattle.schedule_text.specs.declared.event.Event.{Event}
 use Rattle.schedule_text.specs.declared.line.Detail.{Detail}
 use Rattle.schedule_text.specs.declared.line.Detail.TheVariants.{Moves}
 use Rattle.schedule_text.specs.declared.line.Line.{Line}
 use Rattle.schedule_text.specs.declared.line.Line.TheVariants as lines
-use Rattle.schedule_text.specs.Range.{JobHasWidths, IsInRange}
+use Rattle.schedule_text.specs.Range.{SubmissionHasWidths, IsInRange}
 use Rattle.schedule_text.specs.Recorder.{report_text}
 use Rattle.plain_disk.specs.Echo.{is_echo, AnswersAll, Echoes}
 use Rattle.report_rules.specs.Obeys.{Obeys}
@@ -29,7 +29,7 @@ use Rattle.legal_laws.specs.Found.{FindsLegal}
 
 -- a job whose numbers are those of the grammar is one that a schedule can ask for
 abbrev pub JobsCanBeAsked : Type 0
-JobsCanBeAsked = (jobs : List Job) → All JobHasWidths jobs → All CanBeAsked jobs
+JobsCanBeAsked = (jobs : List Submission) → All SubmissionHasWidths jobs → All CanBeAsked jobs
 
 -- these lines are a run of the plain disk, whatever its sectors held
 abbrev pub RunsOnADisk : List Line → Type 0
@@ -37,7 +37,7 @@ RunsOnADisk report = (first : List (List ℕ)) × (disk : Disk) × (after report
 
 -- a report of a run: before a hostile hand first touched it, it is a run of the plain disk, and answers these submissions, as its earlier lines say;
 -- the front's states come in order, and no `settle` ran out of rounds; and where it shows the moves, they all keep the rules
-pub record IsPromised (config : Options) (detail : Detail) (jobs : List Job) (report : List Line) : Type 0 where
+pub record IsPromised (config : Options) (detail : Detail) (jobs : List Submission) (report : List Line) : Type 0 where
   pub rest : List Line
   pub first : report ≡ lines.Begin config detail ∷ rest
   pub body : IsBody detail rest
@@ -51,7 +51,7 @@ pub record IsPromised (config : Options) (detail : Detail) (jobs : List Job) (re
 -- of each such report
 abbrev pub OfPromised : (Options → Detail → List Event → List Line → Type 0) → Type 0
 OfPromised Claim =
-    (config : Options) (detail : Detail) (events : List Event) (jobs : List Job) (report : List Line)
+    (config : Options) (detail : Detail) (events : List Event) (jobs : List Submission) (report : List Line)
     → IsPromised config detail jobs report → Claim config detail events report
 
 -- so far it answers these events: then its lines keep all rules

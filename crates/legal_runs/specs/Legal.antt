@@ -4,7 +4,7 @@ use Rattle.blk_base.specs.Options.{Options}
 use Rattle.schedule_text.specs.declared.event.Event.{Event}
 use Rattle.schedule_text.specs.declared.line.Detail.{Detail}
 use Rattle.schedule_text.specs.declared.line.Line.{Line}
-use Rattle.schedule_text.specs.Range.{JobHasWidths}
+use Rattle.schedule_text.specs.Range.{SubmissionHasWidths}
 use Rattle.schedule_text.specs.Recorder.{report_text}
 use Rattle.plain_disk.specs.Honest.{honest_part}
 use Rattle.plain_disk.specs.Echo.{Echoes}
@@ -22,7 +22,7 @@ pub record IsRunReport (config : Options) (detail : Detail) (events : List Event
   pub lawful : IsLawful config detail (jobs_of events) before now report
   pub disk : IsOfADisk config.sectors before (honest_part report)
   pub echo : Echoes config detail events report
-  pub widths : All JobHasWidths (jobs_of events)
+  pub widths : All SubmissionHasWidths (jobs_of events)
   pub settled : IsSettled (honest_part report)
 
 -- of each such report

@@ -74,7 +74,7 @@ goes_fetched config w g d k shown given r words p known e = subst (λ (ws : List
       s.now,
       counted,
       indices_with g _ _ _ _ _ _ _ _ _ h.back_at.2 h.indices,
-      works_with g.submitted w.front.sectors w.front.last g.fetched w.back.jobs.works t r h.queue.ordered h.submitted h.works is known it.id it.unhindered,
+      works_with g.submitted config.sectors w.front.last g.fetched w.back.jobs.works t r h.queue.ordered h.submitted h.works is known it.id it.unhindered,
       replies_with g.fetched g.taken g.replied g.replies h.replies,
       slots_with _ _ _ _ _ _ _ _ _ _ k h.slots,
       mapped,
@@ -108,7 +108,7 @@ goes_fetched config w g d k shown given r words p known e = subst (λ (ws : List
     few = let within = slice_get_within g.submitted (r.number - 1) r asked in omega (arith, h.indices.few, h.submitted.counted)
 
     sub : IsSubmitted config.sectors (r.number - 1) r
-    sub = subst (λ (sectors : ℕ). IsSubmitted sectors (r.number - 1) r) h.sized.sectors (h.submitted.each (r.number - 1) r asked)
+    sub = h.submitted.each (r.number - 1) r asked
 
     made : t ≡ job_as r.transfer (next_number w.back) w.back.jobs.info.sectors r
     made = ap (λ (i : DiskInfo). begun (next_number w.back) (request_of w.back.shape.abi (entry_of w.back.shape.abi r)) w.back.jobs.info.sectors (verdict_of (request_of w.back.shape.abi (entry_of w.back.shape.abi r)) i)) h.info ∙ entry_job w.back.shape.abi config (next_number w.back) w.back.jobs.info.sectors (r.number - 1) r p.plain few sub (h.sized.writable (r.number - 1) r asked) (h.sized.served (r.number - 1) r asked) (h.sized.short (r.number - 1) r asked)

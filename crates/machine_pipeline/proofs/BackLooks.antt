@@ -19,7 +19,7 @@ use Rattle.blk_front.specs.Submit.{is_connected, ending_of}
 use Rattle.blk_back.specs.declared.stage.BackStage.{BackStage}
 use Rattle.blk_back.specs.declared.stage.BackStage.TheVariants as stage
 use Rattle.blk_back.specs.View.{View, page_of}
-use Rattle.blk_back.specs.declared.told.Halt.TheVariants as halt
+use Rattle.blk_base.specs.declared.halt.Halt.TheVariants as halt
 use Rattle.blk_back.specs.Step.{abort, looked}
 use Rattle.split_model.specs.World.{World}
 use Rattle.split_model.specs.Shown.{back_lines, halt_lines}

@@ -109,7 +109,7 @@ goes_reply config w g d rep frame shown given p placed e =
     }))
     (rw gone (omega (arith, length-remove works l.place within, h.counted)))
     refl
-    (rw gone (replying g.submitted w.front.sectors w.front.last g.fetched works rep l h.submitted h.works))
+    (rw gone (replying g.submitted config.sectors w.front.last g.fetched works rep l h.submitted h.works))
     (ap (λ (m : List Mapping). m ++ w.back.pages) (done_hands w.back.jobs))
   where
     h : Holds config w g d w.front.stage stage.Loop

@@ -75,7 +75,7 @@ revoking_ends s ending e same = absurd (none-some e same)
 pub ending_submitted : (config : Options) (w : World) (g : Flow) (d : Pipeline) (s : FrontStage) (b : BackStage) (e : Ending)
     → Holds config w g d s b
     → ending_at s w.front.ending ≡ Some e
-    → IsSubmitted w.front.sectors (e.request.number - 1) e.request
+    → IsSubmitted config.sectors (e.request.number - 1) e.request
 ending_submitted config w g d s b e h same =
     let is : IsEnding g.submitted g.replies e = ending_is g.shape g.start g.pushed g.taken g.front_seen g.submitted g.replies _ w.front.ring.entry w.front.ending s e
     h.front_at same in

@@ -102,7 +102,7 @@ bare_goes config w g d r safe e still unwritten h = goes_by {g = g} (does_step _
     (more_words g.shape.abi, (r, e, ap (λ (x : Shape). entry_of x.abi r) h.shaped.known)) (λ sends. sends)))
   where
     following : IsNext g.submitted g.series w.front.requests g.pushed w.front.waiting r
-    following = next_is w.front g.submitted w.front.sectors w.front.last g.pushed None r h.queue h.submitted h.pool e
+    following = next_is w.front g.submitted config.sectors w.front.last g.pushed None r h.queue h.submitted h.pool e
 
     none : r.count ≡ 0
     none = following.shape.counted.none still
@@ -125,7 +125,7 @@ data_goes : (config : Options) (w : World) (g : Flow) (d : Pipeline) (r : Reques
     → Goes config (lines.Move (moves.FrontWrite (frame_at r 0) 0 (filling_at r.transfer 0)) ∷ front_lines w.front.told)
     (with_front w (front.Data 1) w.front.ring.entry (with_word w.under.pages (frame_at r 0) 0 (filling_at r.transfer 0))) d
 data_goes config w g d r safe e moves writes h =
-    let following = next_is w.front g.submitted w.front.sectors w.front.last g.pushed None r h.queue h.submitted h.pool e in
+    let following = next_is w.front g.submitted config.sectors w.front.last g.pushed None r h.queue h.submitted h.pool e in
     let s = begun config w g d r h following in
     let some = following.shape.counted.some moves in
     goes_by (does_step _ (front_lines w.front.told) (rw safe.front_told refl) s)
@@ -140,7 +140,7 @@ grants_begin : (config : Options) (w : World) (g : Flow) (d : Pipeline) (r : Req
     → Holds config w g d front.Loop w.back.stage
     → ReadGoes config w d r false
 grants_begin config w g d r safe e reads direct h =
-    let following = next_is w.front g.submitted w.front.sectors w.front.last g.pushed None r h.queue h.submitted h.pool e in
+    let following = next_is w.front g.submitted config.sectors w.front.last g.pushed None r h.queue h.submitted h.pool e in
     let s = begun config w g d r h following in
     let some = following.shape.counted.some (ap is_moving reads) in
     let sized = following.shape.frames in
@@ -157,7 +157,7 @@ pages_begin : (config : Options) (w : World) (g : Flow) (d : Pipeline) (r : Requ
     → Holds config w g d front.Loop w.back.stage
     → ReadGoes config w d r true
 pages_begin config w g d r safe e reads large h =
-    let following = next_is w.front g.submitted w.front.sectors w.front.last g.pushed None r h.queue h.submitted h.pool e in
+    let following = next_is w.front g.submitted config.sectors w.front.last g.pushed None r h.queue h.submitted h.pool e in
     let s = begun config w g d r h following in
     let many : 11 < frames_for r.count = grind (arith, nat_tests) in
     goes_by (does_step _ (front_lines w.front.told) (rw safe.front_told refl) s)

@@ -5,7 +5,7 @@ use Rattle.std.specs.Option.{option_to_list}
 use Rattle.std.proofs.lemmas.List.{append-nil}
 use Rattle.std.proofs.lemmas.List.Elements.{filter_map-append}
 use Rattle.blk_base.specs.Options.{Options}
-use Rattle.blk_base.specs.declared.config.Job.{Job}
+use Rattle.blk_base.specs.declared.config.Submission.{Submission}
 use Rattle.blk_io.specs.Disk.{DiskSeen, HasLength}
 use Rattle.schedule_text.specs.declared.line.Line.{Line}
 use Rattle.split_model.specs.World.{World, start_of}
@@ -68,7 +68,7 @@ pub record HasPart (hs : List Happening) (last : Happening) (w : World) (p : Pip
   pub steps : List Step
   pub allowed : StepsAllowed steps p
   pub shows : lines_of steps p ≡ shown_by hs w ++ part
-  pub more : List Job
+  pub more : List Submission
   pub submits : steps_submit steps ++ more ≡ submitted_of (hs ++ last ∷ [])
   pub runs : (a : List (List ℕ)) (now : Option (List (List ℕ))) → SectorsRun (hs ++ last ∷ []) w (Some a) now → (b : List (List ℕ)) × DiskRuns steps a b
 

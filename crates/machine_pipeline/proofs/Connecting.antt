@@ -68,7 +68,9 @@ waits_goes config w g d told e h = by_pending w.under.channels.front_pending (wa
 becomes_ready : (config : Options) (w : World) (g : Flow) (d : Pipeline) (offers : Offers) → ArePublished w offers → Holds config w g d front.Initialised w.back.stage
     → Goes config (lines.Ready ∷ []) (record { front = (let v : View = w.front in record v { offers = offers; stage = front.Loop }); back = w.back; under = w.under }) d
 becomes_ready config w g d offers published h =
-    let offered : AreOffered config.read_only config.indirect offers = record {
+    let offered : AreOffered config offers = record {
+      sectors = published.sectors ∙ ap (λ (i : DiskInfo). i.sectors) h.info;
+      read_only = published.read_only ∙ ap (λ (i : DiskInfo). i.read_only) h.info;
       barrier = published.barrier ∙ ap (λ (i : DiskInfo). i.barrier) h.info;
       flush = published.flush ∙ ap (λ (i : DiskInfo). i.flush) h.info;
       discard = published.discard ∙ ap (λ (i : DiskInfo). i.discard) h.info;
@@ -128,7 +130,7 @@ agrees config w g d order plain wished unmade h =
     x = h.indices
 
     none : g.pushed ≡ 0
-    none = (subst (λ (b : Bool). IsOffered b config.read_only config.indirect w.front.offers g.pushed) (unmade_unready w.front.stage unmade) h.offered)
+    none = (subst (λ (b : Bool). IsOffered b config w.front.offers g.pushed) (unmade_unready w.front.stage unmade) h.offered)
 
     first : (n : ℕ) → n ≡ 0 → wrapped g.start n ≡ w.front.start
     first n e = let small = plain.start in let whole = h.started.whole in let known = h.started.known in omega arith

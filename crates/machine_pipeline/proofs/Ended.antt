@@ -151,7 +151,7 @@ grant_end_goes config w g d place before untold h =
     is : IsEnding g.submitted g.replies e
     is = h.front_at.2
 
-    its : IsSubmitted w.front.sectors (e.request.number - 1) e.request
+    its : IsSubmitted config.sectors (e.request.number - 1) e.request
     its = let submitted = h.submitted in submitted.each (e.request.number - 1) e.request is.known
 
     frame : ℕ
@@ -210,7 +210,7 @@ grant_end_goes config w g d place before untold h =
         kept.flags ∙ h.entries.ending e h.front_at.1 a (omega arith) lt)
 
     elsewhere : (p : Pipeline) (ending : Option Ending) (telling : Option ℕ) → AreStations config g p true false (is_fetching w.back.stage) ending telling (reply_at w.back.stage) w.front.requests w.back.jobs.works w.under.pages → AreStations config g p true false (is_fetching w.back.stage) ending telling (reply_at w.back.stage) w.front.requests w.back.jobs.works pages
-    elsewhere p ending telling = stations_elsewhere config g p true false (is_fetching w.back.stage) ending telling (reply_at w.back.stage) w.front.requests w.back.jobs.works w.under.pages pages w.front.sectors w.front.last h.submitted (λ f from to. words f (omega arith))
+    elsewhere p ending telling = stations_elsewhere config g p true false (is_fetching w.back.stage) ending telling (reply_at w.back.stage) w.front.requests w.back.jobs.works w.under.pages pages config.sectors w.front.last h.submitted (λ f from to. words f (omega arith))
 
     ring_kept : SameRing w.under.pages pages
     ring_kept page lt = let from = pooled.0 in apart_entry (8 + page) (omega arith) (omega arith)

@@ -83,7 +83,7 @@ word_entered config w g d d' k s s' r entry i i' so_far h stations e within more
     let elsewhere : (f : ℕ) → (f < 2) ⊎ (18 ≤ f) → SameFrame w.under.pages new f = λ f other. frames_beside w.under.pages g.shape (wrapped g.start g.pushed) k value f h.shaped.narrow within other in
     let entries : (gref : ℕ) → gref < 1024 → SameEntry w.under.pages new gref = λ gref lt. same_entry w.under.pages new gref lt (elsewhere 0 (inl (omega arith))) (elsewhere 1 (inl (omega arith))) in
     issue_moved config w g d d' s s' entry new i i' h
-    (stations_elsewhere config g d' (is_ready s') (is_issuing s') (is_fetching w.back.stage) (ending_at s' w.front.ending) (telling_at s') (reply_at w.back.stage) w.front.requests w.back.jobs.works w.under.pages new w.front.sectors w.front.last h.submitted (λ f low high. elsewhere f (inr low)) stations)
+    (stations_elsewhere config g d' (is_ready s') (is_issuing s') (is_fetching w.back.stage) (ending_at s' w.front.ending) (telling_at s') (reply_at w.back.stage) w.front.requests w.back.jobs.works w.under.pages new config.sectors w.front.last h.submitted (λ f low high. elsewhere f (inr low)) stations)
     at
     (length-set w.under.pages _ value ∙ h.memory)
     (λ z lt. indices_beside w.under.pages g.shape (wrapped g.start g.pushed) k value z lt)

@@ -1,8 +1,8 @@
 -- What passes through the ring, by whole indices in place of its wrapped words: whole indices, each request that was ever submitted, those of this epoch, and the responses on their way.
 use Rattle.std.specs.Prelude.{option_map, is_some, ℕ, ◌+◌, ◌-◌, ◌*◌, ◌/◌, ◌%◌, ◌^◌, ◌==◌, ◌&&◌, Bool, true, false, List, [], length, map, max, count_by, Option, Some, None, if◌then◌else◌, nat_lt}
 use Rattle.std.specs.List.{range_with_len}
-use Rattle.blk_base.specs.declared.config.Job.{Job}
-use Rattle.blk_base.specs.declared.config.Job.TheVariants as jobs
+use Rattle.blk_base.specs.declared.config.Submission.{Submission}
+use Rattle.blk_base.specs.declared.config.Submission.TheVariants as submissions
 use Rattle.ring_words.specs.Shape.{Shape, entry_words_of}
 use Rattle.blk_layout.specs.declared.segment.Segment.{Segment}
 use Rattle.blk_front.specs.declared.request.Request.{Request}
@@ -219,12 +219,12 @@ is_bound_back back.Bind = false
 is_bound_back s = true
 
 -- a request as the pipeline has it
-abbrev pub submitted_job : Transfer → (sector count : ℕ) → Job
-submitted_job transfer.Read sector count = jobs.Read sector count
-submitted_job (transfer.Write tag) sector count = jobs.Write sector count tag
-submitted_job (transfer.Barrier tag) sector count = jobs.Barrier sector count tag
-submitted_job transfer.Flush sector count = jobs.Flush
-submitted_job (transfer.Discard sectors) sector count = jobs.Discard sector sectors
+abbrev pub submitted_job : Transfer → (sector count : ℕ) → Submission
+submitted_job transfer.Read sector count = submissions.Read sector count
+submitted_job (transfer.Write tag) sector count = submissions.Write sector count tag
+submitted_job (transfer.Barrier tag) sector count = submissions.Barrier sector count tag
+submitted_job transfer.Flush sector count = submissions.Flush
+submitted_job (transfer.Discard sectors) sector count = submissions.Discard sector sectors
 
 -- its own segments
 abbrev pub own_segments : Request → List Segment

@@ -59,7 +59,7 @@ told_few shape start pushed taken front_seen submitted replies next entry ending
 told_few shape start pushed taken front_seen submitted replies next entry ending s at n is e here = absurd (none-some n is)
 
 -- one of the front's requests is a submitted one
-pub is_submitted : (config : Options) (w : World) (g : Flow) (d : Pipeline) (s : FrontStage) (b : BackStage) → Holds config w g d s b → (i : ℕ) (r : Request) → slice_get w.front.requests i ≡ Some r → IsSubmitted w.front.sectors (r.number - 1) r
+pub is_submitted : (config : Options) (w : World) (g : Flow) (d : Pipeline) (s : FrontStage) (b : BackStage) → Holds config w g d s b → (i : ℕ) (r : Request) → slice_get w.front.requests i ≡ Some r → IsSubmitted config.sectors (r.number - 1) r
 is_submitted config w g d s b h i r e = h.submitted.each (r.number - 1) r (all_at (λ (x : Request). slice_get g.submitted (x.number - 1) ≡ Some x) w.front.requests i r h.queue.known e)
 
 -- the request of a job is one of the front's

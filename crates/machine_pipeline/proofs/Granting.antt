@@ -119,7 +119,7 @@ entry_moved config w g d d' s s' r place entry word value i i' h stations next i
     let elsewhere : (f : ℕ) → f ≢ gref / 512 → SameFrame w.under.pages new f = λ f other. other_frame w.under.pages (gref / 512) word value f within other in
     issue_moved config w g d d' s s' entry new i i' h
     (stations_elsewhere config g d' (is_ready s') (is_issuing s') (is_fetching w.back.stage) (ending_at s' w.front.ending) (telling_at s') (reply_at w.back.stage) w.front.requests w.back.jobs.works
-    w.under.pages new w.front.sectors w.front.last h.submitted (λ f from to. elsewhere f (omega arith)) stations) at
+    w.under.pages new config.sectors w.front.last h.submitted (λ f from to. elsewhere f (omega arith)) stations) at
     (length-set w.under.pages (gref / 512 * 1024 + word) value ∙ h.memory)
     (λ x lt. elsewhere 2 (omega arith) x (omega arith))
     (λ page lt. others (8 + page) (omega arith) (omega arith))

@@ -49,13 +49,11 @@ submitted_more submitted sectors last x number on_disk numbers shaped pooled h =
 }
 
 -- only a read is submitted to a disk that is read-only
-pub disk_more : (config : Options) (sectors : ℕ) (read_only : Bool) (submitted : List Request) (x : Request) → (is_write x.transfer && read_only) ≡ false → (is_moving x.transfer ≡ false → config.read_only ≡ false) → (is_indirect x.count ≡ true → frames_for x.count ≤ config.indirect)
-    → IsOfTheDisk config sectors read_only submitted → IsOfTheDisk config sectors read_only (submitted ++ x ∷ [])
-disk_more config sectors read_only submitted x may serves short h = record {
-  sectors = h.sectors;
-  read_only = h.read_only;
+pub disk_more : (config : Options) (submitted : List Request) (x : Request) → (is_write x.transfer && config.read_only) ≡ false → (is_moving x.transfer ≡ false → config.read_only ≡ false) → (is_indirect x.count ≡ true → frames_for x.count ≤ config.indirect)
+    → IsOfTheDisk config submitted → IsOfTheDisk config (submitted ++ x ∷ [])
+disk_more config submitted x may serves short h = record {
   writable = more_all (λ (k : ℕ) (r : Request). is_write r.transfer ≡ true → config.read_only ≡ false) submitted x h.writable
-      (λ is. let no : read_only ≡ false = grind (arith, nat_tests) in sym h.read_only ∙ no);
+      (λ is. grind (arith, nat_tests));
   served = more_all (λ (k : ℕ) (r : Request). is_moving r.transfer ≡ false → config.read_only ≡ false) submitted x h.served serves;
   short = more_all (λ (k : ℕ) (r : Request). is_indirect r.count ≡ true → frames_for r.count ≤ config.indirect) submitted x h.short short;
 }
@@ -169,7 +167,7 @@ pooled_more pool taken requests ending n x e h =
       omega arith,
     )
 
-pub known_more : (submitted : List Request) (asked : List PipelineRequest) (x : Request) (q : PipelineRequest) → q.job ≡ submitted_job x.transfer x.sector x.count → AreKnown submitted asked → AreKnown (submitted ++ x ∷ []) (asked ++ q ∷ [])
+pub known_more : (submitted : List Request) (asked : List PipelineRequest) (x : Request) (q : PipelineRequest) → q.submission ≡ submitted_job x.transfer x.sector x.count → AreKnown submitted asked → AreKnown (submitted ++ x ∷ []) (asked ++ q ∷ [])
 known_more submitted asked x q job h = record {
   as_many = longer asked q ∙ (ap (λ (n : ℕ). n + 1) h.as_many ∙ sym (longer submitted x));
   each = λ k r p e f. elim (push_was submitted x k r e) [

@@ -53,7 +53,7 @@ AreAmong requests carried = (k : ℕ) (x : PipelineRequest) → slice_get carrie
 
 -- and these have the frames that its job needs
 abbrev IsFitting : List PipelineRequest → Request → Type 0
-IsFitting carried r = (k : ℕ) (x : PipelineRequest) → r.number ≡ k + 1 → slice_get carried k ≡ Some x → job_frames x.job ≡ frames_of r
+IsFitting carried r = (k : ℕ) (x : PipelineRequest) → r.number ≡ k + 1 → slice_get carried k ≡ Some x → job_frames x.submission ≡ frames_of r
 
 later : (a b : Bool) → a ≡ false → (a || b) ≡ true → b ≡ true
 later a b none t = rw none at t
@@ -74,7 +74,7 @@ ends r requests carried p x number here among k y at unended = elim (set_was car
 
 fits_on : (carried : List PipelineRequest) (p : ℕ) (x : PipelineRequest) → slice_get carried p ≡ Some x → (r : Request) → IsFitting carried r → IsFitting (slice_set carried p (ended x)) r
 fits_on carried p x here r fits k y number at = elim (set_was carried p k x (ended x) y here at) [
-  | inl is ↦ ap (λ (z : PipelineRequest). job_frames z.job) is.1 ∙ fits p x (number ∙ ap (λ (n : ℕ). n + 1) is.0) here
+  | inl is ↦ ap (λ (z : PipelineRequest). job_frames z.submission) is.1 ∙ fits p x (number ∙ ap (λ (n : ℕ). n + 1) is.0) here
   | inr was ↦ fits k y number was.1
 ]
 
@@ -109,7 +109,7 @@ held_alike : (requests : List Request) (carried : List PipelineRequest) → AreA
     → (count_by is_open carried ≤ length requests) × (count_by is_open carried ≡ length requests → sum_by held carried ≡ sum_by frames_of requests)
 held_alike [] carried among fits =
     let none = count_none is_open carried (λ i x e. ap not (all_ended carried among i x e)) in
-    (omega arith, λ counted. sum_none held carried (λ i x e. ap (λ (b : Bool). if b then 0 else job_frames x.job) (same_stage x.station ∙ all_ended carried among i x e)))
+    (omega arith, λ counted. sum_none held carried (λ i x e. ap (λ (b : Bool). if b then 0 else job_frames x.submission) (same_stage x.station ∙ all_ended carried among i x e)))
 held_alike (r ∷ requests) carried among fits = elim (looked_up carried r.number) [
   | inl it ↦
       let now = count_set is_open carried it.place it.x (ended it.x) it.here in
@@ -117,7 +117,7 @@ held_alike (r ∷ requests) carried among fits = elim (looked_up carried r.numbe
       let rest = held_alike requests (slice_set carried it.place (ended it.x)) (ends r requests carried it.place it.x it.number it.here among)
       (λ k d lt. fits_on carried it.place it.x it.here (get_or requests k d) ((All-tail (IsFitting carried) r requests fits) k d lt)) in
       let summed = sum_set held carried it.place it.x (ended it.x) it.here in
-      let own = ap (λ (b : Bool). if b then 0 else job_frames it.x.job) (same_stage it.x.station ∙ it.unended) in
+      let own = ap (λ (b : Bool). if b then 0 else job_frames it.x.submission) (same_stage it.x.station ∙ it.unended) in
       (omega (arith, rest.0), λ counted. omega (arith, rest.1 (omega arith), sum_by-cons frames_of r requests, All-head (IsFitting carried) r requests fits it.place it.x it.number it.here))
   | inr none ↦
       let fewer = held_alike requests carried (skips r requests carried none among) (All-tail (IsFitting carried) r requests fits) in
@@ -178,7 +178,7 @@ frames_alike config w g d h =
     ending = ending_at w.front.stage w.front.ending
 
     fit : (r : Request) → slice_get g.submitted (r.number - 1) ≡ Some r → IsFitting d.requests r
-    fit r stands = fitting g.submitted w.front.sectors w.front.last d.requests r h.submitted h.stations.known stands
+    fit r stands = fitting g.submitted config.sectors w.front.last d.requests r h.submitted h.stations.known stands
 
     each : All (IsFitting d.requests) w.front.requests
     each k x lt = fit (get_or w.front.requests k x) (let queue = h.queue in queue.known k x lt)

@@ -33,7 +33,7 @@ use Rattle.blk_back.specs.declared.stage.BackStage.{BackStage}
 use Rattle.blk_back.specs.declared.stage.BackStage.TheVariants as back
 use Rattle.blk_back.specs.Ask.{response_word}
 use Rattle.segment_list.specs.declared.verdict.DiskInfo.{DiskInfo}
-use Rattle.blk_back.specs.declared.told.Halt.{Halt}
+use Rattle.blk_base.specs.declared.halt.Halt.{Halt}
 use Rattle.blk_back.specs.View.{no_page, info_of}
 use Rattle.blk_back.specs.Hands.{hands_at}
 use Rattle.blk_base.specs.Options.{Options}
@@ -274,17 +274,19 @@ FrontAt shape start pushed taken front_seen submitted replies next entry ending 
 FrontAt shape start pushed taken front_seen submitted replies next entry ending (front.Broken word) = ⊥
 FrontAt shape start pushed taken front_seen submitted replies next entry ending s = Unit {0}
 
--- the back serves barriers, flushes and discards where the disk isn't read-only, and so many segments of indirect pages, and the front knows it
-pub record AreOffered (fixed : Bool) (limit : ℕ) (offers : Offers) : Type 0 where
-  pub barrier : offers.barrier ≡ not fixed
-  pub flush : offers.flush ≡ not fixed
-  pub discard : offers.discard ≡ not fixed
-  pub indirect : offers.indirect ≡ limit
+-- the front knows the options' disk, and what the back serves: barriers, flushes and discards where the disk isn't read-only, and so many segments of indirect pages
+pub record AreOffered (config : Options) (offers : Offers) : Type 0 where
+  pub sectors : offers.sectors ≡ config.sectors
+  pub read_only : offers.read_only ≡ config.read_only
+  pub barrier : offers.barrier ≡ not config.read_only
+  pub flush : offers.flush ≡ not config.read_only
+  pub discard : offers.discard ≡ not config.read_only
+  pub indirect : offers.indirect ≡ config.indirect
 
--- before it is connected nothing was pushed, though requests may wait; from then on the front knows what its back serves
-abbrev pub IsOffered : Bool → (fixed : Bool) → (limit : ℕ) → Offers → (pushed : ℕ) → Type 0
-IsOffered false fixed limit offers pushed = pushed ≡ 0
-IsOffered true fixed limit offers pushed = AreOffered fixed limit offers
+-- before it is connected nothing was pushed, though requests may wait; from then on the front knows its disk and what its back serves
+abbrev pub IsOffered : Bool → Options → Offers → (pushed : ℕ) → Type 0
+IsOffered false config offers pushed = pushed ≡ 0
+IsOffered true config offers pushed = AreOffered config offers
 
 -- a job's result was taken, and its response is being written
 pub record IsReplying (series : List Request) (fetched : ℕ) (works : List Work) (rep : Reply) : Type 0 where
@@ -442,26 +444,24 @@ pub record IsStarted (option start front_start : ℕ) (began front_closes : Bool
   pub known : front_start ≡ option
   pub closing : began ≡ front_closes
 
--- the front knows the option's disk, only reads are submitted to a read-only one, and no request has more segments in indirect pages than the option says
-pub record IsOfTheDisk (config : Options) (size : ℕ) (fixed : Bool) (submitted : List Request) : Type 0 where
-  pub sectors : size ≡ config.sectors
-  pub read_only : fixed ≡ config.read_only
+-- only reads are submitted to a read-only disk, and no request has more segments in indirect pages than the option says
+pub record IsOfTheDisk (config : Options) (submitted : List Request) : Type 0 where
   pub writable : (k : ℕ) (r : Request) → slice_get submitted k ≡ Some r → is_write r.transfer ≡ true → config.read_only ≡ false
   pub served : (k : ℕ) (r : Request) → slice_get submitted k ≡ Some r → is_moving r.transfer ≡ false → config.read_only ≡ false
   pub short : (k : ℕ) (r : Request) → slice_get submitted k ≡ Some r → is_indirect r.count ≡ true → frames_for r.count ≤ config.indirect
 
 -- what no move of an end changes: how both began, the disk, all that was submitted, and that the back serves
-pub record IsSettled (config : Options) (start : ℕ) (began : Bool) (shape : Shape) (asked : List Request) (front_start : ℕ) (front_closes : Bool) (front_shape : Shape) (size : ℕ) (fixed : Bool) (last : ℕ) (disk : DiskInfo) (halted : Option Halt) : Type 0 where
+pub record IsSettled (config : Options) (start : ℕ) (began : Bool) (shape : Shape) (asked : List Request) (front_start : ℕ) (front_closes : Bool) (front_shape : Shape) (last : ℕ) (disk : DiskInfo) (halted : Option Halt) : Type 0 where
   pub started : IsStarted config.start start front_start began front_closes
   pub shaped : IsOfShape config shape front_shape
-  pub sized : IsOfTheDisk config size fixed asked
-  pub submitted : AreSubmitted asked size last
+  pub sized : IsOfTheDisk config asked
+  pub submitted : AreSubmitted asked config.sectors last
   pub info : disk ≡ info_of config
   pub unhalted : halted ≡ None
 
 -- the machine with the front at stage s and the back at stage b, the flow of its words, and the pipeline that it stands for
 pub record Holds (config : Options) (w : World) (g : Flow) (d : Pipeline) (s : FrontStage) (b : BackStage) : Type 0 where
-  pub settled : IsSettled config g.start g.closing g.shape g.submitted w.front.start w.front.closing w.front.shape w.front.sectors w.front.read_only w.front.last w.back.jobs.info w.back.halted
+  pub settled : IsSettled config g.start g.closing g.shape g.submitted w.front.start w.front.closing w.front.shape w.front.last w.back.jobs.info w.back.halted
   pub open settled use *
   pub indices : AreIndices g w.front.ring.indices w.back.ring.indices w.front.ring.seen w.back.ring.seen w.back.fetched w.front.last w.front.waiting (length w.front.requests) (ending_of s)
   pub queue : AreQueued g.submitted g.series g.pushed w.front.requests w.front.waiting
@@ -471,7 +471,7 @@ pub record Holds (config : Options) (w : World) (g : Flow) (d : Pipeline) (s : F
   pub counted : length w.back.jobs.works + reply_count (reply_at b) + g.replied ≡ g.fetched
   pub replies : AreReplies g.series g.fetched g.taken g.replied g.replies
   pub front_at : FrontAt g.shape g.start g.pushed g.taken g.front_seen g.submitted g.replies (next_request w.front) w.front.ring.entry w.front.ending s
-  pub offered : IsOffered (is_ready s) config.read_only config.indirect w.front.offers g.pushed
+  pub offered : IsOffered (is_ready s) config w.front.offers g.pushed
   pub back_at : BackAt g.shape g.start g.fetched g.back_seen g.replied g.series w.back.jobs.works w.back.ring.entry b
   pub memory : length w.under.pages ≡ 1114112
   pub ring : AreRingWords g.shape.order g.start g.pushed g.replied w.under.pages s (length w.back.pages)

@@ -5,7 +5,7 @@ use Rattle.std.specs.List.{AllByRecursion, list_all}
 use Rattle.std.proofs.lemmas.List.{append-nil}
 use Rattle.std.proofs.lemmas.List.Elements.{filter_map-append}
 use Rattle.blk_base.specs.Options.{Options}
-use Rattle.blk_base.specs.declared.config.Job.{Job}
+use Rattle.blk_base.specs.declared.config.Submission.{Submission}
 use Rattle.blk_io.specs.Disk.{DiskSeen}
 use Rattle.schedule_text.specs.declared.line.Detail.{Detail}
 use Rattle.schedule_text.specs.declared.line.Detail.TheVariants.{Lines, Moves}
@@ -15,7 +15,7 @@ use Rattle.schedule_text.specs.Recorder.{recorded, kept_of}
 use Rattle.plain_disk.specs.Echo.{is_echo}
 use Rattle.plain_disk.specs.Honest.{is_honest, honest_part}
 use Rattle.plain_disk.proofs.Honest.{honest_more, honest_ends}
-use Rattle.blk_front.specs.declared.told.Refusal.{Refusal}
+use Rattle.blk_base.specs.declared.refusal.Refusal.{Refusal}
 use Rattle.blk_front.specs.Submit as front_submit
 use Rattle.split_model.specs.World.{World, start_of}
 use Rattle.split_model.specs.Happening.{Happening, Submits, Pokes, OverwritesKey, Suspends, Dumps, Looks, Settles, is_guest_word, is_guest_key, happens, after, lines_at, lines_of, submit_line, DiskRuns}
@@ -58,7 +58,7 @@ silent_honest (line ∷ ls) e = elim (cases_Bool (is_echo line)) [
   | inr is ↦ (unechoed line is, silent_honest ls (sym (echo_past line ls is) ∙ e))
 ]
 
-submit_honest : (job : Job) (r : Result ℕ Refusal) → AreHonest (submit_line job r ∷ [])
+submit_honest : (job : Submission) (r : Result ℕ Refusal) → AreHonest (submit_line job r ∷ [])
 submit_honest job (Ok number) = (refl, tt)
 submit_honest job (Err refusal) = (refl, tt)
 
@@ -152,7 +152,7 @@ disk_part hs w before now runs =
     let first = honest_first hs in
     disk_runs_first (honest_history hs) first.0 w before now (subst (λ (l : List Happening). DiskRuns l w before now) first.1 runs)
 
-pub submitted_part : (hs : List Happening) → (more : List Job) × (submitted_of (honest_history hs) ++ more ≡ submitted_of hs)
+pub submitted_part : (hs : List Happening) → (more : List Submission) × (submitted_of (honest_history hs) ++ more ≡ submitted_of hs)
 submitted_part hs =
     let first = honest_first hs in
     (submitted_of first.0, sym (ap submitted_of first.1 ∙ filter_map-append submitted_at (honest_history hs) first.0))

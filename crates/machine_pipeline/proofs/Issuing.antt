@@ -176,7 +176,7 @@ module _ {config : Options} {w : World} {g : Flow} {d : Pipeline} {s : FrontStag
       → AreStations config g d (is_ready s') (is_issuing s') (is_fetching b) (ending_at s' w.front.ending) (telling_at s') (reply_at b) w.front.requests w.back.jobs.works pages
   stations_turned connected issued none none' same =
       stations_elsewhere config g d (is_ready s') (is_issuing s') (is_fetching b) (ending_at s' w.front.ending) (telling_at s') (reply_at b) w.front.requests w.back.jobs.works w.under.pages pages
-      w.front.sectors w.front.last h.submitted same
+      config.sectors w.front.last h.submitted same
       (rw (connected, issued, unending s' w.front.ending none' ∙ sym (unending s w.front.ending none), untelling s' none' ∙ sym (untelling s none)) h.stations)
 
 -- while an entry is being copied it was pushed
@@ -188,7 +188,7 @@ fetching_pushed shape start fetched back_seen replied pushed series works entry 
 -- the request that is issued next
 pub next_here : {config : Options} {w : World} {g : Flow} {d : Pipeline} {s : FrontStage} {b : BackStage} {r : Request} → Holds config w g d s b
     → next_request w.front ≡ Some r → IsNext g.submitted g.series w.front.requests g.pushed w.front.waiting r
-next_here {w = w} {g = g} {r = r} h e = next_is w.front g.submitted w.front.sectors w.front.last g.pushed _ r h.queue h.submitted h.pool e
+next_here {config = config} {w = w} {g = g} {r = r} h e = next_is w.front g.submitted config.sectors w.front.last g.pushed _ r h.queue h.submitted h.pool e
 
 -- the front carries out an ask and makes a step that no answer decides: what it says, and the machine then
 abbrev pub said_by : World → front_view.View → Option FrontAct → List Line

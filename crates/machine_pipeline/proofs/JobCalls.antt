@@ -62,7 +62,7 @@ module _ {config : Options} {w : World} {g : Flow} {d : Pipeline} {p : ℕ} {t :
   called : {call : (before after : List (List ℕ)) → Type 0} {line : Line} (mid : Work) (status : Status) (shown : Shown) → mid.id ≡ t.id
       → hands_then w p (record t { stage = job.Done status }) ≡ hands_of w.back
       → (s : StepsTo call config w g d p mid (line ∷ []))
-      → ((q : PipelineRequest) → q.job ≡ submitted_job r.transfer r.sector r.count → (station_before q.job (Ends status) ≡ worked mid.stage mid.moved) × May (next d s.step) (mid.id - 1) q (Ends status))
+      → ((q : PipelineRequest) → q.submission ≡ submitted_job r.transfer r.sector r.count → (station_before q.submission (Ends status) ≡ worked mid.stage mid.moved) × May (next d s.step) (mid.id - 1) q (Ends status))
       → (is_okay status ≡ true → (q : PipelineRequest) → slice_get (next d s.step).requests (mid.id - 1) ≡ Some q → is_write r.transfer ≡ false → IsReadBack w.under.pages r r.count q.words)
       → GoesBy None call config (lines.Move shown ∷ line ∷ []) (with_job w p (record t { stage = job.Done status }) w.under) d
   called {call} {line} mid status shown number hands s before back =
@@ -96,7 +96,7 @@ module _ {config : Options} {w : World} {g : Flow} {d : Pipeline} {p : ℕ} {t :
   -- the disk failed: between both steps the job is as one that unmaps a frame
   fails_so : {call : (before after : List (List ℕ)) → Type 0} (shown : Shown) → is_moving r.transfer ≡ false → t.moved ≡ 0 → worked j t.moved ≡ Working t.moved
       → hands_then w p (record t { stage = job.Done Error }) ≡ hands_of w.back
-      → ((q : PipelineRequest) → q.job ≡ submitted_job r.transfer r.sector r.count → (a b : List (List ℕ)) → call a b → DiskDoes q.job (Fails t.moved) a b)
+      → ((q : PipelineRequest) → q.submission ≡ submitted_job r.transfer r.sector r.count → (a b : List (List ℕ)) → call a b → DiskDoes q.submission (Fails t.moved) a b)
       → GoesBy None call config (lines.Move shown ∷ lines.Fault t.id t.moved ∷ []) (with_job w p (record t { stage = job.Done Error }) w.under) d
   fails_so {call} shown bare unmoved works hands disk =
       called mid Error shown refl hands (job_stepped w mid (Fails t.moved) refl refl (lines_of w g d p t r lines.Fault doing.is)
@@ -111,7 +111,7 @@ module _ {config : Options} {w : World} {g : Flow} {d : Pipeline} {p : ℕ} {t :
       mid = record t { stage = job.Abort no_page }
 
 -- the job of a request, by its way
-job_of : {way : Transfer} (r : Request) → r.transfer ≡ way → (q : PipelineRequest) → q.job ≡ submitted_job r.transfer r.sector r.count → q.job ≡ submitted_job way r.sector r.count
+job_of : {way : Transfer} (r : Request) → r.transfer ≡ way → (q : PipelineRequest) → q.submission ≡ submitted_job r.transfer r.sector r.count → q.submission ≡ submitted_job way r.sector r.count
 job_of r is q asked = asked ∙ ap (λ (way : Transfer). submitted_job way r.sector r.count) is
 
 pub flush_goes : {config : Options} {w : World} {g : Flow} {d : Pipeline} {p : ℕ} {t : Work} {r : Request} → IsDoing config w g d p t r job.Flush → (number : ℕ) (o : Outcome)

@@ -4,8 +4,8 @@ use Rattle.std.specs.Prelude.{AllPairs, Some, slice_get, slice_set, replicate}
 use Rattle.std.proofs.lemmas.Option.{same_Some, slice_get_within}
 use Rattle.std.proofs.lemmas.Bool.{false≢true, true≢false, cases_eq, cases_lt, cases_Bool}
 use Rattle.blk_base.specs.Options.{Options}
-use Rattle.blk_base.specs.declared.config.Job.{Job}
-use Rattle.blk_base.specs.declared.config.Job.TheVariants.{Read}
+use Rattle.blk_base.specs.declared.config.Submission.{Submission}
+use Rattle.blk_base.specs.declared.config.Submission.TheVariants.{Read}
 use Rattle.blk_base.specs.declared.operation.Status.TheVariants.{Okay, Error}
 use Rattle.schedule_text.specs.declared.line.Line.{Line}
 use Rattle.schedule_text.specs.declared.line.Line.TheVariants as lines
@@ -42,7 +42,7 @@ use Rattle.machine_pipeline.proofs.JobMoves.{IsAt, sectors_left, IsDoing, read_n
 use Rattle.machine_pipeline.specs.Step.{CallOf}
 
 -- a write or a barrier, as the pipeline has it
-record IsFilling (x : Job) (sector count tag : ℕ) : Type 0 where
+record IsFilling (x : Submission) (sector count tag : ℕ) : Type 0 where
   pub writes : fills_sectors x ≡ true
   pub places : places_of x ≡ count
   pub first : sector_of x ≡ sector
@@ -63,18 +63,18 @@ all_places (transfer.Discard sectors) sector count moves = absurd (false≢true 
 all_places way sector count moves = refl
 
 -- what a barrier orders is what the operation of the job says
-same_order : (op : ℕ) (x : Job) (way : Transfer) (sector count : ℕ) → op ≡ operation_of way → x ≡ submitted_job way sector count → ((op == 1 || op == 2 || op == 5) ≡ is_ordered x) × ((op == 2) ≡ is_barrier x)
+same_order : (op : ℕ) (x : Submission) (way : Transfer) (sector count : ℕ) → op ≡ operation_of way → x ≡ submitted_job way sector count → ((op == 1 || op == 2 || op == 5) ≡ is_ordered x) × ((op == 2) ≡ is_barrier x)
 same_order op x transfer.Read sector count this that = rw (this, that) (refl, refl)
 same_order op x way sector count this that = rw (this, that) (refl, refl)
 
 -- a job that doesn't hold up an ordered one isn't in its way
-not_in_way : (t u : Work) (x : Job) (y : PipelineRequest) → (orders t ≡ is_ordered x) × (bars t ≡ is_barrier x) → (orders u ≡ is_ordered y.job) × (bars u ≡ is_barrier y.job)
+not_in_way : (t u : Work) (x : Submission) (y : PipelineRequest) → (orders t ≡ is_ordered x) × (bars t ≡ is_barrier x) → (orders u ≡ is_ordered y.submission) × (bars u ≡ is_barrier y.submission)
     → is_done u ≡ false
     → is_ordered x ≡ true
     → is_held t (holds_barriers u) (holds_all u) ≡ false
     → is_in_way (is_barrier x) y ≡ false
 not_in_way t u x y this that undone ordered none =
-    rw (sym this.1, sym that.0, sym that.1) (by_order (bars t) (orders u) (bars u) (is_working y.job y.station)
+    rw (sym this.1, sym that.0, sym that.1) (by_order (bars t) (orders u) (bars u) (is_working y.submission y.station)
     (sym (same (bars t) (orders t) (orders u) (bars u) (is_done u) (this.0 ∙ ordered) undone) ∙ none))
   where
     same : (b o c e f : Bool) → o ≡ true → f ≡ false → ((b && (c && not f)) || (o && (e && not f))) ≡ ((b && (c && true)) || (true && (e && true)))
@@ -87,20 +87,20 @@ not_in_way t u x y this that undone ordered none =
     by_order false true false w none = refl
 
 -- a request at work: its job isn't done
-working_kind : (x : Job) (s : Station) → is_working x s ≡ true → kind_of s ≡ 4
+working_kind : (x : Submission) (s : Station) → is_working x s ≡ true → kind_of s ≡ 4
 working_kind x (Working moved) t = refl
 working_kind x s t = absurd (false≢true t)
 
-working_undone : (x : Job) (s : JobStage) (moved : ℕ) → is_working x (worked s moved) ≡ true → is_done_at s ≡ false
+working_undone : (x : Submission) (s : JobStage) (moved : ℕ) → is_working x (worked s moved) ≡ true → is_done_at s ≡ false
 working_undone x (job.Done status) moved t = absurd (false≢true t)
 working_undone x s moved t = refl
 
 -- a move of a job's request from one station to the next, with its call of the disk
 pub record IsJobMove (call : (before after : List (List ℕ)) → Type 0) (d : Pipeline) (k : ℕ) (q : PipelineRequest) (from to : Station) (move : Move) : Type 0 where
-  pub before : station_before q.job move ≡ from
-  pub after : station_after q.job move ≡ to
+  pub before : station_before q.submission move ≡ from
+  pub after : station_after q.submission move ≡ to
   pub may : May d k q move
-  pub disk : (a b : List (List ℕ)) → call a b → DiskDoes q.job move a b
+  pub disk : (a b : List (List ℕ)) → call a b → DiskDoes q.submission move a b
 
 -- what a read has once its job made the move
 abbrev pub HasRead : World → Pipeline → Work → Work → Request → Move → Type 0
@@ -120,7 +120,7 @@ jobs_ordered config w g d p t r h is =
 module _ {call : (before after : List (List ℕ)) → Type 0} {config : Options} {g : Flow} {d : Pipeline} {t : Work} {r : Request} {said : List Line} (w : World) (t' : Work) (move : Move)
     (number : t'.id ≡ t.id)
     (still : ring_after d.ring (t.id - 1) move ≡ d.ring) (shows : move_lines (t.id - 1) move ≡ said) (now : HasRead w d t t' r move)
-    (makes : (q : PipelineRequest) → q.job ≡ submitted_job r.transfer r.sector r.count → IsJobMove call d (t.id - 1) q (worked t.stage t.moved) (worked t'.stage t'.moved) move) where
+    (makes : (q : PipelineRequest) → q.submission ≡ submitted_job r.transfer r.sector r.count → IsJobMove call d (t.id - 1) q (worked t.stage t.moved) (worked t'.stage t'.moved) move) where
   -- the job at this place makes it
   pub job_moves : {works : List Work} {p : ℕ} → StationsWith config w g d works w.under.pages → AreOrdered g works p t r
       → Stepped None call d said (λ x. StationsWith config w g x (slice_set works p t') w.under.pages)
@@ -153,22 +153,22 @@ stands_before works p i t u up here at lower = elim (cases_lt i p) [
 clears : (config : Options) (w : World) (g : Flow) (d : Pipeline) (p : ℕ) (t : Work) (r : Request) (q : PipelineRequest)
     → Holds config w g d w.front.stage w.back.stage
     → IsAt w g d p t r
-    → q.job ≡ submitted_job r.transfer r.sector r.count
-    → is_ordered q.job ≡ true
-    → (j : ℕ) (y : PipelineRequest) → j < t.id - 1 → slice_get d.requests j ≡ Some y → is_in_way (is_barrier q.job) y ≡ false
-clears config w g d p t r q h is asked ordered i y before here = elim (cases_Bool (is_working y.job y.station)) [
+    → q.submission ≡ submitted_job r.transfer r.sector r.count
+    → is_ordered q.submission ≡ true
+    → (j : ℕ) (y : PipelineRequest) → j < t.id - 1 → slice_get d.requests j ≡ Some y → is_in_way (is_barrier q.submission) y ≡ false
+clears config w g d p t r q h is asked ordered i y before here = elim (cases_Bool (is_working y.submission y.station)) [
   | inl working ↦
-      let its = h.stations.held i y here (working_kind y.job y.station working) in
+      let its = h.stations.held i y here (working_kind y.submission y.station working) in
       let u : Work = its.1 in
       let work = all_at (IsWork g.submitted g.series g.fetched) w.back.jobs.works its.0 u h.works.each its.2 in
       let place : u.id - 1 ≡ i = omega (arith, its.3) in
       let x = h.stations.works its.0 u its.2 in
       let one : x.q ≡ y = same_Some x.q y (sym x.at ∙ (ap (slice_get d.requests) place ∙ here)) in
       let known = h.stations.known.each i work.r y (ap (slice_get g.submitted) (sym place) ∙ work.known) here in
-      not_in_way t u q.job y (same_order t.op q.job r.transfer r.sector r.count is.op asked) (same_order u.op y.job work.r.transfer work.r.sector work.r.count work.op known)
-      (working_undone y.job u.stage u.moved (ap (is_working y.job) (sym (ap (λ (z : PipelineRequest). z.station) (sym one) ∙ x.there)) ∙ working)) ordered
+      not_in_way t u q.submission y (same_order t.op q.submission r.transfer r.sector r.count is.op asked) (same_order u.op y.submission work.r.transfer work.r.sector work.r.count work.op known)
+      (working_undone y.submission u.stage u.moved (ap (is_working y.submission) (sym (ap (λ (z : PipelineRequest). z.station) (sym one) ∙ x.there)) ∙ working)) ordered
       (is.free.clear its.0 u (stands_before w.back.jobs.works p its.0 t u h.works.ascending is.place its.2 (omega (arith, its.3, before))) its.2)
-  | inr none ↦ rw none (idle (is_ordered y.job) (is_barrier q.job || is_barrier y.job))
+  | inr none ↦ rw none (idle (is_ordered y.submission) (is_barrier q.submission || is_barrier y.submission))
 ]
   where
     idle : (b c : Bool) → (b && c && false) ≡ false
@@ -179,8 +179,8 @@ clears config w g d p t r q h is asked ordered i y before here = elim (cases_Boo
 pub clear : (config : Options) (w : World) (g : Flow) (d : Pipeline) (p : ℕ) (t : Work) (r : Request) (q : PipelineRequest)
     → Holds config w g d w.front.stage w.back.stage
     → IsAt w g d p t r
-    → q.job ≡ submitted_job r.transfer r.sector r.count
-    → is_ordered q.job ≡ true
+    → q.submission ≡ submitted_job r.transfer r.sector r.count
+    → is_ordered q.submission ≡ true
     → IsClear d (t.id - 1) q
 clear config w g d p t r q h is asked ordered = record {
   index = t.number - 1;
@@ -209,7 +209,7 @@ sector_left config w g d p t r h is moving =
     (omega (arith, left.0), left.2, moves_sectors r moving.place shaped moving.here)
 
 module _ {config : Options} {w : World} {g : Flow} {d : Pipeline} {p : ℕ} {t : Work} {r : Request} {m : Mapping} (doing : IsDoing config w g d p t r (job.DiskWrite m)) (t' : Work) where
-  filled_job : (q : PipelineRequest) → q.job ≡ submitted_job r.transfer r.sector r.count → IsFilling q.job r.sector r.count (tag_of r.transfer)
+  filled_job : (q : PipelineRequest) → q.submission ≡ submitted_job r.transfer r.sector r.count → IsFilling q.submission r.sector r.count (tag_of r.transfer)
   filled_job q asked = rw asked (filling_job r.transfer r.sector r.count doing.at.2)
 
   -- the disk takes the sector; a write reads nothing
@@ -241,7 +241,7 @@ module _ {config : Options} {w : World} {g : Flow} {d : Pipeline} {p : ℕ} {t :
   left : (t.moved < r.count) × (r.count ≤ 7680) × (is_moving r.transfer ≡ true)
   left = sector_left config w g d p t r doing.holds doing.is doing.at.0
 
-  read_so : (q : PipelineRequest) → q.job ≡ submitted_job r.transfer r.sector r.count → q.job ≡ Read r.sector r.count
+  read_so : (q : PipelineRequest) → q.submission ≡ submitted_job r.transfer r.sector r.count → q.submission ≡ Read r.sector r.count
   read_so q asked = asked ∙ read_job r.transfer r.sector r.count left.2 doing.at.2
 
   -- the disk gives the sector

@@ -18,12 +18,12 @@ use Rattle.back_jobs.specs.Jobs.{first_mapping, after_mapping}
 use Rattle.back_jobs.specs.Work.{Work}
 use Rattle.blk_back.specs.declared.stage.BackStage.{BackStage}
 use Rattle.blk_back.specs.declared.stage.BackStage.TheVariants as back
-use Rattle.blk_back.specs.declared.told.Halt.{Halt}
+use Rattle.blk_base.specs.declared.halt.Halt.{Halt}
 use Rattle.blk_back.specs.View.{View, no_page}
 use Rattle.blk_back.specs.Hands.{aborted}
 use Rattle.blk_back.specs.Step.{unbound, unmapping_next}
 use Rattle.split_model.specs.World.{World}
-use Rattle.split_model.specs.Shown.{halt_line, halt_lines}
+use Rattle.split_model.specs.Shown.{halt_lines}
 use Rattle.split_model.specs.Happening.{BackHalts, happens, lines_at}
 use Rattle.split_model.proofs.States.{halts_cases}
 use Rattle.machine_pipeline.specs.Allowed.{is_free, IsFarewell}
@@ -152,7 +152,7 @@ Leaving config w d v = HasGone None IsSame config (halt_lines w.back.halted v.ha
 leaves : (config : Options) (w : World) (g : Flow) (d : Pipeline) (why : Halt) (v : View) → Holds config w g d w.front.stage w.back.stage → IsFarewell w why → v.halted ≡ Some why → Over config (backed w v) d w.front.stage v.stage → Leaving config w d v
 leaves config w g d why v h farewell halted over =
     let finished : AreFinished d = record { each = over.finished } in
-    gone_by {steps = Leaves (halt_line why) ∷ []} (record { asides = []; aside = refl; shows = rw (h.unhalted, halted) refl; asks = refl; allowed = ((over.leaves, farewell.gone, finished), tt); disk = λ a b e. (b, e, refl) })
+    gone_by {steps = Leaves why ∷ []} (record { asides = []; aside = refl; shows = rw (h.unhalted, halted) refl; asks = refl; allowed = ((over.leaves, farewell.gone, finished), tt); disk = λ a b e. (b, e, refl) })
     (inr over)
 
 -- a back that isn't bound holds pages that it mapped, or none

@@ -5,7 +5,7 @@ use Rattle.xen_pages.specs.Pages.{word_of}
 use Rattle.grant_table.specs.declared.held.Held.{Held}
 use Rattle.grant_table.specs.Table.{entry_word0}
 use Rattle.blk_base.specs.Options.{Options}
-use Rattle.blk_base.specs.declared.config.Job.{Job}
+use Rattle.blk_base.specs.declared.config.Submission.{Submission}
 use Rattle.blk_base.specs.declared.parts.Mapping.{Mapping}
 use Rattle.schedule_text.specs.declared.line.Line.{Line}
 use Rattle.ring_words.specs.Shape.{Shape}
@@ -21,7 +21,7 @@ use Rattle.back_jobs.specs.Work.{Work}
 use Rattle.blk_back.specs.View.{info_of}
 use Rattle.blk_back.specs.declared.stage.BackStage.{BackStage}
 use Rattle.blk_back.specs.declared.stage.BackStage.TheVariants as back
-use Rattle.blk_back.specs.declared.told.Halt.{Halt}
+use Rattle.blk_base.specs.declared.halt.Halt.{Halt}
 use Rattle.split_model.specs.World.{World}
 use Rattle.machine_pipeline.specs.Step.{Does}
 use Rattle.machine_pipeline.proofs.Flow.{Flow}
@@ -68,10 +68,8 @@ abbrev pub is_closed : FrontStage → Bool
 is_closed front.Closed = true
 is_closed s = false
 
--- what both ends keep over a suspend: the disk as the front knows it, its last number, the ring's first index and shape, its pool, the words of a sector in its hands, and the disk as the back has it
+-- what both ends keep over a suspend: the front's last number, the ring's first index and shape, its pool, the words of a sector in its hands, and the disk as the back has it
 pub record Lasting : Type 0 where
-  pub size : ℕ
-  pub fixed : Bool
   pub last : ℕ
   pub start : ℕ
   pub shape : Shape
@@ -80,12 +78,12 @@ pub record Lasting : Type 0 where
   pub info : DiskInfo
 
 abbrev pub lasting_of : World → Lasting
-lasting_of w = record { size = w.front.sectors; fixed = w.front.read_only; last = w.front.last; start = w.front.start; shape = w.front.shape; pool = w.front.pool; words = w.front.words; info = w.back.jobs.info }
+lasting_of w = record { last = w.front.last; start = w.front.start; shape = w.front.shape; pool = w.front.pool; words = w.front.words; info = w.back.jobs.info }
 
 -- from which another epoch may begin: each request was submitted as the pipeline has it
 pub record MayBegin (config : Options) (submitted : List Request) (asked : List PipelineRequest) (x : Lasting) : Type 0 where
-  pub sized : IsOfTheDisk config x.size x.fixed submitted
-  pub each : AreSubmitted submitted x.size x.last
+  pub sized : IsOfTheDisk config submitted
+  pub each : AreSubmitted submitted config.sectors x.last
   pub few : x.last < 2 ^ 32
   pub known : AreKnown submitted asked
   pub started : x.start ≡ config.start
@@ -145,15 +143,15 @@ abbrev pub IsKept : Options → World → Pipeline → Type 0
 IsKept config w d = ((g : Flow) × Holds config w g d w.front.stage w.back.stage) ⊎ Over config w d w.front.stage w.back.stage
 
 -- the next machine, and the pipeline that it stands for: after the steps that were made
-pub record HasGone (asked : Option Job) (call : (before after : List (List ℕ)) → Type 0) (config : Options) (said : List Line) (w : World) (d : Pipeline) : Type 0 where
+pub record HasGone (asked : Option Submission) (call : (before after : List (List ℕ)) → Type 0) (config : Options) (said : List Line) (w : World) (d : Pipeline) : Type 0 where
   pub steps : List Step
   pub does : Does asked call said d steps
   pub kept : IsKept config w (after_steps steps d)
 
 -- so it is by these steps
-pub gone_by : {asked : Option Job} {call : (before after : List (List ℕ)) → Type 0} {config : Options} {said : List Line} {w : World} {d : Pipeline} {steps : List Step} → Does asked call said d steps → IsKept config w (after_steps steps d) → HasGone asked call config said w d
+pub gone_by : {asked : Option Submission} {call : (before after : List (List ℕ)) → Type 0} {config : Options} {said : List Line} {w : World} {d : Pipeline} {steps : List Step} → Does asked call said d steps → IsKept config w (after_steps steps d) → HasGone asked call config said w d
 gone_by {steps = steps} does kept = record { steps = steps; does = does; kept = kept }
 
 -- so it is where the ends go on serving
-pub goes_on : {asked : Option Job} {call : (before after : List (List ℕ)) → Type 0} (config : Options) (said : List Line) (w : World) (d : Pipeline) → GoesBy asked call config said w d → HasGone asked call config said w d
+pub goes_on : {asked : Option Submission} {call : (before after : List (List ℕ)) → Type 0} (config : Options) (said : List Line) (w : World) (d : Pipeline) → GoesBy asked call config said w d → HasGone asked call config said w d
 goes_on config said w d gone = record { steps = gone.steps; does = gone.does; kept = inl (gone.flow, gone.holds) }

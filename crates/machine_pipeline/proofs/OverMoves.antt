@@ -44,7 +44,7 @@ use Rattle.back_jobs.specs.Work.{Work}
 use Rattle.blk_back.specs.declared.stage.BackStage.{BackStage}
 use Rattle.blk_back.specs.declared.stage.BackStage.TheVariants as back
 use Rattle.blk_back.specs.declared.told.BackTold.{BackTold}
-use Rattle.blk_back.specs.declared.told.Halt.{Halt}
+use Rattle.blk_base.specs.declared.halt.Halt.{Halt}
 use Rattle.blk_back.specs.Hands.{hands_at}
 use Rattle.blk_back.specs.View as back_view
 use Rattle.blk_back.specs.Ask.{unmap_ask}

@@ -5,7 +5,7 @@ use Rattle.blk_base.specs.declared.parts.Mapping.{Mapping}
 use Rattle.ring_words.specs.Shape.{Shape}
 use Rattle.std.proofs.lemmas.List.{length-map}
 use Rattle.blk_base.specs.Options.{Options}
-use Rattle.blk_base.specs.declared.config.Job.{Job}
+use Rattle.blk_base.specs.declared.config.Submission.{Submission}
 use Rattle.schedule_text.specs.declared.line.Line.TheVariants as lines
 use Rattle.pipeline_laws.specs.Station.{asked}
 use Rattle.pipeline_laws.specs.Pipeline.{Pipeline, Refuses, Connects, Closes}
@@ -15,16 +15,16 @@ use Rattle.blk_front.specs.declared.stage.FrontStage.TheVariants as front
 use Rattle.blk_front.specs.declared.state.FrontState.{FrontState}
 use Rattle.blk_front.specs.declared.state.Offers.{Offers}
 use Rattle.blk_front.specs.declared.state.FrontState.TheVariants as states
-use Rattle.blk_front.specs.declared.told.Refusal.{Refusal}
-use Rattle.blk_front.specs.declared.told.Refusal.TheVariants as refusal
+use Rattle.blk_base.specs.declared.refusal.Refusal.{Refusal}
+use Rattle.blk_base.specs.declared.refusal.Refusal.TheVariants as refusal
 use Rattle.blk_front.specs.State.{is_open, is_unmade, is_made, is_bare, may_enter, in_state}
 use Rattle.blk_front.specs.Ask.{is_through}
 use Rattle.blk_front.specs.View.{View}
 use Rattle.blk_back.specs.declared.stage.BackStage.{BackStage}
 use Rattle.blk_back.specs.declared.stage.BackStage.TheVariants as back
-use Rattle.blk_back.specs.declared.told.Halt.{Halt}
+use Rattle.blk_base.specs.declared.halt.Halt.{Halt}
 use Rattle.split_model.specs.World.{World}
-use Rattle.split_model.specs.Shown.{state_lines, refusal_word, halt_lines}
+use Rattle.split_model.specs.Shown.{state_lines, halt_lines}
 use Rattle.split_model.specs.Happening.{FrontEnters, BackAttaches, BackHalts, Submits, submit_line, happens, lines_at}
 use Rattle.split_model.proofs.States.{enters_cases, is_unbound, halts_cases}
 use Rattle.split_model.proofs.Shapes.{attaches_waiting}
@@ -40,7 +40,7 @@ use Rattle.machine_pipeline.proofs.Over.{IsAborting, AreUnmapped, IsLeaving, Ove
 use Rattle.std.proofs.lemmas.Bool.{cond_both}
 
 -- a submission is refused
-pub submit_ends : (config : Options) (w : World) (d : Pipeline) (job : Job) → Over config w d w.front.stage w.back.stage → HasGone (Some job) IsSame config (lines_at w (Submits job)) (happens w (Submits job)) d
+pub submit_ends : (config : Options) (w : World) (d : Pipeline) (job : Submission) → Over config w d w.front.stage w.back.stage → HasGone (Some job) IsSame config (lines_at w (Submits job)) (happens w (Submits job)) d
 submit_ends config w d job o = cond_both (w.front.last == 4294967295) _ _ Ends
     (λ t. refused refusal.Spent (rw (spent_at ∙ t) refl))
     (λ t. cond_both w.front.closing _ _ Ends (λ closes. refused refusal.Closing (rw (spent_at ∙ t, o.leaves) refl)) (λ opened. absurd (true≢false (sym o.closes ∙ opened))))
@@ -51,8 +51,8 @@ submit_ends config w d job o = cond_both (w.front.last == 4294967295) _ _ Ends
     spent_at : (length (map asked d.requests) == 4294967295) ≡ (w.front.last == 4294967295)
     spent_at = ap (λ (n : ℕ). n == 4294967295) (length-map d.requests asked ∙ o.counted)
 
-    refused : (r : Refusal) → refusal_now d job ≡ Some (refusal_word r) → HasGone (Some job) IsSame config (lines.Refuse (refusal_word r) ∷ []) w d
-    refused r same = record { steps = Refuses job (refusal_word r) ∷ []; does = record { asides = []; aside = refl; shows = refl; asks = refl; allowed = (same, tt); disk = λ a b e. (b, e, refl) }; kept = inr o }
+    refused : (r : Refusal) → refusal_now d job ≡ Some r → HasGone (Some job) IsSame config (lines.Refuse r ∷ []) w d
+    refused r same = record { steps = Refuses job r ∷ []; does = record { asides = []; aside = refl; shows = refl; asks = refl; allowed = (same, tt); disk = λ a b e. (b, e, refl) }; kept = inr o }
 
 -- the machine with its front at that stage
 abbrev staged : World → FrontStage → World

@@ -55,7 +55,7 @@ producer_goes config w g d safe h =
     (assumption (
       indices_pushed g w.front.ring.indices w.back.ring.indices w.front.ring.seen w.back.ring.seen w.back.fetched w.front.last w.front.waiting (length w.front.requests) next.waits h.indices,
       queue_pushed g.submitted w.front.requests g.pushed w.front.waiting r next (waiting_few h.indices) h.queue,
-      stations_elsewhere config (pushed_flow g) _ true false (is_fetching w.back.stage) None None (reply_at w.back.stage) w.front.requests w.back.jobs.works w.under.pages new w.front.sectors w.front.last h.submitted (λ f low high. elsewhere f (omega arith)) s.now,
+      stations_elsewhere config (pushed_flow g) _ true false (is_fetching w.back.stage) None None (reply_at w.back.stage) w.front.requests w.back.jobs.works w.under.pages new config.sectors w.front.last h.submitted (λ f low high. elsewhere f (omega arith)) s.now,
       at,
       length-set w.under.pages (2 * 1024 + 0) (next_of old) ∙ h.memory,
       ring,

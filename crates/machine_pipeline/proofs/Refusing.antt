@@ -6,10 +6,9 @@ use Rattle.std.specs.List.{sum_by, position_or_len}
 use Rattle.std.proofs.lemmas.Bool.Decides.{nat_tests}
 use Rattle.std.proofs.lemmas.List.Sums.{sum_by-cons, count_by-le-length}
 use Rattle.blk_base.specs.Options.{Options}
-use Rattle.blk_base.specs.declared.config.Job.{Job}
-use Rattle.blk_base.specs.declared.config.Job.TheVariants.{Read, Write, Barrier, Flush, Discard}
-use Rattle.schedule_text.specs.declared.line.Refusal.{Refusal as RefusalWord}
-use Rattle.schedule_text.specs.declared.line.Refusal.TheVariants as words
+use Rattle.blk_base.specs.declared.config.Submission.{Submission}
+use Rattle.blk_base.specs.declared.config.Submission.TheVariants.{Read, Write, Barrier, Flush, Discard}
+use Rattle.blk_base.specs.declared.refusal.Refusal.{Refusal}
 use Rattle.plain_disk.specs.declared.request.DiskRequest.{DiskRequest}
 use Rattle.plain_disk.specs.Request.{is_finished}
 use Rattle.pipeline_laws.specs.Station.{PipelineRequest, asked, stage_at, is_finished as is_ended}
@@ -24,14 +23,12 @@ use Rattle.blk_front.specs.declared.stage.Ending.{Ending}
 use Rattle.blk_front.specs.declared.stage.FrontStage.{FrontStage}
 use Rattle.blk_front.specs.declared.stage.FrontStage.TheVariants as front
 use Rattle.blk_front.specs.declared.state.Offers.{Offers}
-use Rattle.blk_front.specs.declared.told.Refusal.{Refusal}
-use Rattle.blk_front.specs.declared.told.Refusal.TheVariants as refusal
+use Rattle.blk_base.specs.declared.refusal.Refusal.TheVariants as refusal
 use Rattle.blk_front.specs.Pool.{with_taken, taking}
 use Rattle.blk_front.specs.View.{View, next_request}
 use Rattle.blk_front.specs.Submit.{is_ready, ending_of, unfinished, wished, frames_taken, submit_with, submit_one, submit_of}
 use Rattle.blk_back.specs.declared.stage.Reply.{Reply}
 use Rattle.split_model.specs.World.{World}
-use Rattle.split_model.specs.Shown.{refusal_word}
 use Rattle.machine_pipeline.specs.Allowed.{IsServable}
 use Rattle.machine_pipeline.specs.Plain.{IsPlain}
 use Rattle.machine_pipeline.proofs.Flow.{Flow, ending_at, count_of}
@@ -43,14 +40,14 @@ use Rattle.std.proofs.lemmas.List.{length-map}
 use Rattle.machine_pipeline.proofs.Holding.{ruled_frames, frames_alike, same_stage}
 
 -- an answer, as the rule gives it: none where the submission is accepted
-abbrev pub answer_of : Result ℕ Refusal → Option RefusalWord
+abbrev pub answer_of : Result ℕ Refusal → Option Refusal
 answer_of (Ok number) = None
-answer_of (Err r) = Some (refusal_word r)
+answer_of (Err r) = Some r
 
 -- what a ready front knows of its back
-pub offered_is : (ready fixed : Bool) (limit : ℕ) (offers : Offers) (pushed : ℕ) → ready ≡ true → IsOffered ready fixed limit offers pushed → AreOffered fixed limit offers
-offered_is true fixed limit offers pushed is h = h
-offered_is false fixed limit offers pushed is h = absurd (true≢false (sym is))
+pub offered_is : (ready : Bool) (config : Options) (offers : Offers) (pushed : ℕ) → ready ≡ true → IsOffered ready config offers pushed → AreOffered config offers
+offered_is true config offers pushed is h = h
+offered_is false config offers pushed is h = absurd (true≢false (sym is))
 
 -- as many requests end as the front's stage says
 pub same_ending : (shape : Shape) (start pushed taken front_seen : ℕ) (submitted : List Request) (replies : List Reply) (next : Option Request) (entry : List ℕ)
@@ -91,8 +88,8 @@ frames_fit (suc n) pool frames =
     ]
 
 -- the last tests of a submission, by the rule and by the front
-abbrev ruled_last : (refuses past long full lacks : Bool) → Option RefusalWord
-ruled_last refuses past long full lacks = if refuses then Some words.ReadOnly else (if past then Some words.Range else (if long then Some words.Long else (if full then Some words.Full else (if lacks then Some words.Buffers else None))))
+abbrev ruled_last : (refuses past long full lacks : Bool) → Option Refusal
+ruled_last refuses past long full lacks = if refuses then Some refusal.ReadOnly else (if past then Some refusal.Range else (if long then Some refusal.Long else (if full then Some refusal.Full else (if lacks then Some refusal.Buffers else None))))
 
 abbrev tested_last : View → Wish → (refuses past long full : Bool) → Option (List ℕ × List Bool) → Result ℕ Refusal × View
 tested_last v wish refuses past long full taken = if refuses then (Err refusal.ReadOnly, v) else (if past then (Err refusal.Range, v) else (if long then (Err refusal.Long, v) else (if full then (Err refusal.Full, v) else submit_with v wish taken)))
@@ -109,11 +106,11 @@ same_answer : (v : View) (wish : Wish) (one : Option Wish → Result ℕ Refusal
     → (connected ≡ true → unsupported ≡ false → one (Some wish) ≡ tested_last v wish refuses past long full taken)
     → (connected ≡ true → offered ≡ not unsupported)
     → (long ≡ false → full ≡ false → IsLacking lacks taken)
-    → (if spent then Some words.Spent else (if not closing && (not connected || false) then Some words.NotReady else (if closing then Some words.Closing else (if unsupported then Some words.Unsupported else ruled_last refuses past long full lacks))))
+    → (if spent then Some refusal.Spent else (if not closing && (not connected || false) then Some refusal.NotReady else (if closing then Some refusal.Closing else (if unsupported then Some refusal.Unsupported else ruled_last refuses past long full lacks))))
     ≡ answer_of (if spent then (Err refusal.Spent, v) else (if closing then (Err refusal.Closing, v) else (if not connected then (Err refusal.NotReady, v) else one (wished offered wish)))).0
 same_answer v wish one false false true unsupported offered refuses past long full lacks taken none some serves fits = by_offer unsupported offered (some refl) (serves refl)
   where
-    by_offer : (u o : Bool) → (u ≡ false → one (Some wish) ≡ tested_last v wish refuses past long full taken) → o ≡ not u → (if u then Some words.Unsupported else ruled_last refuses past long full lacks) ≡ answer_of (one (wished o wish)).0
+    by_offer : (u o : Bool) → (u ≡ false → one (Some wish) ≡ tested_last v wish refuses past long full taken) → o ≡ not u → (if u then Some refusal.Unsupported else ruled_last refuses past long full lacks) ≡ answer_of (one (wished o wish)).0
     by_offer false true some e = same_last v wish refuses past long full lacks taken fits ∙ sym (ap (λ (y : Result ℕ Refusal × View). answer_of y.0) (some refl))
     by_offer true false some e = sym (ap (λ (y : Result ℕ Refusal × View). answer_of y.0) none)
     by_offer u o some e = cc
@@ -125,18 +122,13 @@ pub record AreAlike (config : Options) (v : View) (requests : List DiskRequest) 
   pub opened : count_by (λ (q : DiskRequest). not (is_finished q.stage)) requests ≡ unfinished v
   pub held : sum_by frames_held requests ≡ count_by (λ (b : Bool). b) v.pool
   pub size : length v.pool ≡ 1000
-  pub sectors : v.sectors ≡ config.sectors
-  pub read_only : v.read_only ≡ config.read_only
   pub order : config.order ≡ v.shape.order
-  pub offers : is_ready v.stage ≡ true → AreOffered config.read_only config.indirect v.offers
+  pub offers : is_ready v.stage ≡ true → AreOffered config v.offers
 
 -- so the rule's answer is the front's
-pub ruled_alike : (config : Options) (v : View) (requests : List DiskRequest) (job : Job) → config.indirect ≤ 960 → AreAlike config v requests → refusal_by (record { config = Some config; connected = is_ready v.stage; closing = v.closing; broken = false }) config requests job ≡ answer_of (submit_of v job).0
+pub ruled_alike : (config : Options) (v : View) (requests : List DiskRequest) (job : Submission) → config.indirect ≤ 960 → AreAlike config v requests → refusal_by (record { config = Some config; connected = is_ready v.stage; closing = v.closing; broken = false }) config requests job ≡ answer_of (submit_of v job).0
 ruled_alike config v requests job narrow alike = by_job job
   where
-    past : (n : ℕ) → nat_lt config.sectors n ≡ nat_lt v.sectors n
-    past n = ap (λ (m : ℕ). nat_lt m n) (sym alike.sectors)
-
     -- the front's limit is the rule's
     most : is_ready v.stage ≡ true → max 11 (min 960 v.offers.indirect) ≡ max 11 config.indirect
     most ready = let limit = (alike.offers ready).indirect in omega arith
@@ -152,20 +144,20 @@ ruled_alike config v requests job narrow alike = by_job job
     bare count short =
         subst (λ (n : ℕ). IsLacking (nat_lt 1000 (sum_by frames_held requests + n)) (taking (frames_taken count) v.pool [])) (rw short (omega arith)) (free count)
 
-    by_job : (x : Job) → refusal_by (record { config = Some config; connected = is_ready v.stage; closing = v.closing; broken = false }) config requests x ≡ answer_of (submit_of v x).0
-    by_job (Read sector count) = rw (alike.spent, alike.order, past (sector + count), alike.opened)
-        (same_answer v (record { sector = sector; count = count; transfer = transfer.Read }) (submit_one v) _ _ _ false true false _ _ _ _ _ refl (λ ready served. rw (most ready) refl) (λ ready. refl) (λ short full. fits count))
-    by_job (Write sector count tag) = rw (alike.spent, sym alike.read_only, alike.order, past (sector + count), alike.opened)
-        (same_answer v (record { sector = sector; count = count; transfer = transfer.Write tag }) (submit_one v) _ _ _ false true _ _ _ _ _ _ refl (λ ready served. rw (most ready) refl) (λ ready. refl) (λ short full. fits count))
-    by_job (Barrier sector count tag) = rw (alike.spent, alike.order, past (sector + count), alike.opened)
-        (same_answer v (record { sector = sector; count = count; transfer = transfer.Barrier tag }) (submit_one v) _ _ _ config.read_only v.offers.barrier false _ _ _ _ _ refl (λ ready served. rw (alike.read_only ∙ served) refl) (λ ready. (alike.offers ready).barrier) (λ short full. bare count short))
-    by_job Flush = rw (alike.spent, alike.order, past 0, alike.opened)
-        (same_answer v (record { sector = 0; count = 0; transfer = transfer.Flush }) (submit_one v) _ _ _ config.read_only v.offers.flush false _ false _ _ _ refl (λ ready served. refl) (λ ready. (alike.offers ready).flush) (λ short full. fits 0))
-    by_job (Discard sector count) = rw (alike.spent, alike.order, past (sector + count), alike.opened)
-        (same_answer v (record { sector = sector; count = 0; transfer = transfer.Discard count }) (submit_one v) _ _ _ config.read_only v.offers.discard false _ false _ _ _ refl (λ ready served. refl) (λ ready. (alike.offers ready).discard) (λ short full. fits 0))
+    by_job : (x : Submission) → refusal_by (record { config = Some config; connected = is_ready v.stage; closing = v.closing; broken = false }) config requests x ≡ answer_of (submit_of v x).0
+    by_job (Read sector count) = rw (alike.spent, alike.order, alike.opened)
+        (same_answer v (record { sector = sector; count = count; transfer = transfer.Read }) (submit_one v) _ _ _ false true false _ _ _ _ _ refl (λ ready served. rw ((alike.offers ready).sectors, most ready) refl) (λ ready. refl) (λ short full. fits count))
+    by_job (Write sector count tag) = rw (alike.spent, alike.order, alike.opened)
+        (same_answer v (record { sector = sector; count = count; transfer = transfer.Write tag }) (submit_one v) _ _ _ false true _ _ _ _ _ _ refl (λ ready served. rw ((alike.offers ready).read_only, (alike.offers ready).sectors, most ready) refl) (λ ready. refl) (λ short full. fits count))
+    by_job (Barrier sector count tag) = rw (alike.spent, alike.order, alike.opened)
+        (same_answer v (record { sector = sector; count = count; transfer = transfer.Barrier tag }) (submit_one v) _ _ _ config.read_only v.offers.barrier false _ _ _ _ _ refl (λ ready served. rw ((alike.offers ready).read_only ∙ served, (alike.offers ready).sectors) refl) (λ ready. (alike.offers ready).barrier) (λ short full. bare count short))
+    by_job Flush = rw (alike.spent, alike.order, alike.opened)
+        (same_answer v (record { sector = 0; count = 0; transfer = transfer.Flush }) (submit_one v) _ _ _ config.read_only v.offers.flush false _ false _ _ _ refl (λ ready served. rw (alike.offers ready).sectors refl) (λ ready. (alike.offers ready).flush) (λ short full. fits 0))
+    by_job (Discard sector count) = rw (alike.spent, alike.order, alike.opened)
+        (same_answer v (record { sector = sector; count = 0; transfer = transfer.Discard count }) (submit_one v) _ _ _ config.read_only v.offers.discard false _ false _ _ _ refl (λ ready served. rw (alike.offers ready).sectors refl) (λ ready. (alike.offers ready).discard) (λ short full. fits 0))
 
 -- of a machine that stands for a pipeline
-ruled : (config : Options) (w : World) (g : Flow) (d : Pipeline) (job : Job) → IsPlain config → Holds config w g d w.front.stage w.back.stage → refusal_by (record { config = Some config; connected = is_ready w.front.stage; closing = w.front.closing; broken = false }) config (map asked d.requests) job ≡ answer_of (submit_of w.front job).0
+ruled : (config : Options) (w : World) (g : Flow) (d : Pipeline) (job : Submission) → IsPlain config → Holds config w g d w.front.stage w.back.stage → refusal_by (record { config = Some config; connected = is_ready w.front.stage; closing = w.front.closing; broken = false }) config (map asked d.requests) job ≡ answer_of (submit_of w.front job).0
 ruled config w g d job plain h =
     ruled_alike config w.front (map asked d.requests) job plain.indirect (record {
       spent = length-map d.requests asked ∙ h.stations.known.as_many ∙ (let all = h.submitted in all.counted);
@@ -173,12 +165,10 @@ ruled config w g d job plain h =
           (same_ending g.shape g.start g.pushed g.taken g.front_seen g.submitted g.replies (next_request w.front) w.front.ring.entry w.front.ending w.front.stage h.front_at);
       held = frames_alike config w g d h;
       size = h.pool.size;
-      sectors = h.sized.sectors;
-      read_only = h.sized.read_only;
       order = sym (ap (λ (x : Shape). x.order) (h.shaped.known ∙ h.shaped.whole));
-      offers = λ ready. offered_is (is_ready w.front.stage) config.read_only config.indirect w.front.offers g.pushed ready h.offered;
+      offers = λ ready. offered_is (is_ready w.front.stage) config w.front.offers g.pushed ready h.offered;
     })
 
 -- so is the pipeline's
-pub refused_rightly : (config : Options) (w : World) (g : Flow) (d : Pipeline) (job : Job) → IsPlain config → Holds config w g d w.front.stage w.back.stage → IsServable job → refusal_now d job ≡ answer_of (submit_of w.front job).0
+pub refused_rightly : (config : Options) (w : World) (g : Flow) (d : Pipeline) (job : Submission) → IsPlain config → Holds config w g d w.front.stage w.back.stage → IsServable job → refusal_now d job ≡ answer_of (submit_of w.front job).0
 refused_rightly config w g d job plain h one = rw (h.stations.options, h.stations.front, h.started.closing) (ruled config w g d job plain h)

@@ -74,7 +74,7 @@ unfinished_again (p ∷ asked) =
 pub known_again : (submitted : List Request) (asked : List PipelineRequest) → AreKnown submitted asked → AreKnown submitted (map again asked)
 known_again submitted asked h = record {
   as_many = length-map asked again ∙ h.as_many;
-  each = λ k r q e f. again_all (λ k q. slice_get submitted k ≡ Some r → q.job ≡ submitted_job r.transfer r.sector r.count) asked (λ j p at its. h.each j r p its at) k q f e;
+  each = λ k r q e f. again_all (λ k q. slice_get submitted k ≡ Some r → q.submission ≡ submitted_job r.transfer r.sector r.count) asked (λ j p at its. h.each j r p its at) k q f e;
 }
 
 -- a request that waits again stands at Waiting

@@ -106,7 +106,7 @@ begins_anew {submitted} config w d s after ending plain i lasts memory resuming 
     let flow : Flow = begun_flow config now submitted in
     let entries : entries_of w.front.shape.order ≡ entries_of config.order = ap (λ (x : Shape). entries_of x.order) lasts.shaped in
     let stations : AreStations config flow (next d r.step) false false false (ending_at s ending) (telling_at s) None after [] (tables_cleared w.under.pages) =
-    stations_elsewhere config flow (next d r.step) false false false (ending_at s ending) (telling_at s) None after [] w.under.pages (tables_cleared w.under.pages) w.front.sectors w.front.last
+    stations_elsewhere config flow (next d r.step) false false false (ending_at s ending) (telling_at s) None after [] w.under.pages (tables_cleared w.under.pages) config.sectors w.front.last
     lasts.each (λ f low high x lt. kept_word w.under.pages f x (omega arith)) r.now in
     let holds = epoch_holds config now submitted (next d r.step) s plain i
     (assumption (entries, length-tables_cleared w.under.pages ∙ memory)) (assumption (stations, front_at (next_request now.front) now.front.ring.entry)) in

@@ -39,7 +39,7 @@ back_awake b e = absurd (true≢false e)
 
 -- nothing was pushed before the front is ready
 pub none_yet : (config : Options) (w : World) (g : Flow) (d : Pipeline) (s : FrontStage) → is_ready s ≡ false → Holds config w g d s w.back.stage → g.pushed ≡ 0
-none_yet config w g d s unready h = subst (λ (ready : Bool). IsOffered ready config.read_only config.indirect w.front.offers g.pushed) unready h.offered
+none_yet config w g d s unready h = subst (λ (ready : Bool). IsOffered ready config w.front.offers g.pushed) unready h.offered
 
 pub starts_on : (config : Options) (w : World) (g : Flow) (d : Pipeline) (s s' : FrontStage) (pages : List ℕ) (channels : ChannelState)
     → is_connected s ≡ false → may_front_sleep s ≡ false → IsBare s → IsBare s'
@@ -56,8 +56,8 @@ starts_on config w g d s s' pages channels starting restless i i' h at sized wor
       (omega (arith, h.indices.room, i'.none_ends)) h.indices,
   subst (ArePooled w.front.pool w.front.requests) (unending s w.front.ending i.none_ends ∙ sym (unending s' w.front.ending i'.none_ends)) h.pool,
   stations_elsewhere config g d (is_ready s') (is_issuing s') (is_fetching w.back.stage) (ending_at s' w.front.ending) (telling_at s') (reply_at w.back.stage) w.front.requests
-      w.back.jobs.works w.under.pages pages w.front.sectors w.front.last h.submitted elsewhere stations,
-  subst (λ (b : Bool). IsOffered b config.read_only config.indirect w.front.offers g.pushed) (i.unready ∙ sym i'.unready) h.offered,
+      w.back.jobs.works w.under.pages pages config.sectors w.front.last h.submitted elsewhere stations,
+  subst (λ (b : Bool). IsOffered b config w.front.offers g.pushed) (i.unready ∙ sym i'.unready) h.offered,
   slots,
   nothing,
   data_rests w.under.pages pages w.front.words w.front.ending w.front.ending s s' (untelling s' i'.none_ends) h.telling,

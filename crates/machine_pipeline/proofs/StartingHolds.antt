@@ -69,8 +69,8 @@ begun_flow config w submitted = epoch_flow (shape_of config) config.start w.unde
 
 -- and its requests wait, in frames of their own, but the read whose data the front has in hand
 pub record AreAllWaiting (config : Options) (w : World) (submitted : List Request) (d : Pipeline) (s : FrontStage) : Type 0 where
-  pub sized : IsOfTheDisk config w.front.sectors w.front.read_only submitted
-  pub each : AreSubmitted submitted w.front.sectors w.front.last
+  pub sized : IsOfTheDisk config submitted
+  pub each : AreSubmitted submitted config.sectors w.front.last
   pub series : IsSeries submitted w.front.requests
   pub few : w.front.last < 2 ^ 32
   pub room : length w.front.requests + ending_of s ≤ entries_of config.order

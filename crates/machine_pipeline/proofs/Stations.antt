@@ -30,7 +30,7 @@ pub record StandsAt (asked : List PipelineRequest) (k : ℕ) (station : Station)
 -- the pipeline has each submitted request, as it was asked
 pub record AreKnown (submitted : List Request) (asked : List PipelineRequest) : Type 0 where
   pub as_many : length asked ≡ length submitted
-  pub each : (k : ℕ) (r : Request) (q : PipelineRequest) → slice_get submitted k ≡ Some r → slice_get asked k ≡ Some q → q.job ≡ submitted_job r.transfer r.sector r.count
+  pub each : (k : ℕ) (r : Request) (q : PipelineRequest) → slice_get submitted k ≡ Some r → slice_get asked k ≡ Some q → q.submission ≡ submitted_job r.transfer r.sector r.count
 
 -- it has as many unfinished requests as the front, and each of those is one of the front's
 pub record AreOpen (asked : List PipelineRequest) (requests : List Request) (ending : Option Ending) : Type 0 where
@@ -154,12 +154,12 @@ pub record IsMoved (asked moved : List PipelineRequest) (k : ℕ) (from to : Sta
   pub now : PipelineRequest
   pub here : slice_get moved k ≡ Some now
   pub there : now.station ≡ to
-  pub job : now.job ≡ (let q : PipelineRequest = was.q in q.job)
+  pub submission : now.submission ≡ (let q : PipelineRequest = was.q in q.submission)
   pub others : (j : ℕ) → j ≢ k → slice_get moved j ≡ slice_get asked j
   pub as_many : length moved ≡ length asked
   pub counted : count_by (λ (q : PipelineRequest). not (is_finished q.station)) moved + cond (not (is_finished from)) 1 0 ≡ count_by (λ (q : PipelineRequest). not (is_finished q.station)) asked + cond (not (is_finished to)) 1 0
 
-abbrev pub is_moved : {asked : List PipelineRequest} {k : ℕ} {from to : Station} (x : StandsAt asked k from) (now : PipelineRequest) → now.station ≡ to → now.job ≡ (let q : PipelineRequest = x.q in q.job) → IsMoved asked (slice_set asked k now) k from to
+abbrev pub is_moved : {asked : List PipelineRequest} {k : ℕ} {from to : Station} (x : StandsAt asked k from) (now : PipelineRequest) → now.station ≡ to → now.submission ≡ (let q : PipelineRequest = x.q in q.submission) → IsMoved asked (slice_set asked k now) k from to
 is_moved {asked} {k} {from} {to} x now after job =
     let first : ◌≡◌ {A = ℕ} (cond (not (is_finished (let q : PipelineRequest = x.q in q.station))) 1 0) (cond (not (is_finished from)) 1 0) = ap (λ (s : Station). cond (not (is_finished s)) 1 0) x.there in
     let second : ◌≡◌ {A = ℕ} (cond (not (is_finished now.station)) 1 0) (cond (not (is_finished to)) 1 0) = ap (λ (s : Station). cond (not (is_finished s)) 1 0) after in
@@ -168,7 +168,7 @@ is_moved {asked} {k} {from} {to} x now after job =
       now = now;
       here = get_set_here asked k x.q now x.at;
       there = after;
-      job = job;
+      submission = job;
       others = λ j other. get_set_other asked k j now (λ same. other (sym same));
       as_many = length-set asked k now;
       counted = omega (arith, (count_set (λ (y : PipelineRequest). not (is_finished y.station)) asked k x.q now x.at), first, second);
@@ -202,7 +202,7 @@ known_moved {asked = asked} {moved = moved} {k = k} m h = record {
   each = λ j r q e f. elim (cases_eq j k) [
     | inl same ↦
         let one : m.now ≡ q = same_Some m.now q (sym m.here ∙ ap (slice_get moved) (sym same) ∙ f) in
-        ap (λ (x : PipelineRequest). x.job) (sym one) ∙ (m.job ∙ h.each j r m.was.q e (ap (slice_get asked) same ∙ m.was.at))
+        ap (λ (x : PipelineRequest). x.submission) (sym one) ∙ (m.submission ∙ h.each j r m.was.q e (ap (slice_get asked) same ∙ m.was.at))
     | inr other ↦ h.each j r q e (sym (m.others j other) ∙ f)
   ];
 }

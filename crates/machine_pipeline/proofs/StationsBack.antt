@@ -150,7 +150,7 @@ module _ {config : Options} {g : Flow} {d : Pipeline} {connected issuing : Bool}
       → AllPairs (λ (a b : Work). a.id < b.id) works
       → ((i : ℕ) (u : Work) → slice_get works i ≡ Some u → 1 ≤ u.id)
       → t'.id ≡ t.id
-      → (let q : PipelineRequest = x.q in station_after q.job move) ≡ worked t'.stage t'.moved
+      → (let q : PipelineRequest = x.q in station_after q.submission move) ≡ worked t'.stage t'.moved
       → ring_after d.ring (t.id - 1) move ≡ d.ring
       → ((r : Request) → slice_get g.submitted (t.id - 1) ≡ Some r → is_write r.transfer ≡ false → (let q : PipelineRequest = x.q in ReadAt pages r t'.moved t'.words (words_after move q.words) t'.stage × (has_data_at (worked t'.stage t'.moved) ≡ true → IsReadBack pages r r.count (words_after move q.words))))
       → AreStations config g d connected issuing fetching ending telling replying requests works pages

@@ -4,7 +4,7 @@ use Rattle.std.specs.Prelude.{Option, Some, None, slice_get, slice_set, slice_in
 use Rattle.std.proofs.lemmas.Option.{none-some, same_Some}
 use Rattle.std.proofs.lemmas.Bool.{cases_Bool, false≢true, true≢false, cases_eq}
 use Rattle.blk_base.specs.Options.{Options}
-use Rattle.blk_base.specs.declared.config.Job.{Job}
+use Rattle.blk_base.specs.declared.config.Submission.{Submission}
 use Rattle.blk_base.specs.declared.operation.Status.{Status}
 use Rattle.blk_base.specs.declared.operation.Status.TheVariants.{Okay}
 use Rattle.schedule_text.specs.declared.line.Line.{Line}
@@ -38,8 +38,8 @@ use Rattle.machine_pipeline.proofs.Stations.{StandsAt, AreStations, AllStand, Is
 -- a request moves from one station to another, and the pipeline's ring with it: so the step, where what is said of the ring and of all requests goes on holding
 pub moves_on : {config : Options} {g g' : Flow} {d : Pipeline} {connected issuing issuing' fetching fetching' : Bool} {ending ending' : Option Ending} {telling telling' : Option ℕ} {replying replying' : Option Reply} {requests requests' : List Request} {works works' : List Work} {pages : List ℕ} {k : ℕ} {from to : Station} {said : List Line} (x : StandsAt d.requests k from) (move : Move)
     → AreStations config g d connected issuing fetching ending telling replying requests works pages
-    → (let q : PipelineRequest = x.q in station_after q.job move) ≡ to
-    → (let q : PipelineRequest = x.q in station_before q.job move) ≡ from
+    → (let q : PipelineRequest = x.q in station_after q.submission move) ≡ to
+    → (let q : PipelineRequest = x.q in station_before q.submission move) ≡ from
     → May d k x.q move
     → move_lines k move ≡ said
     → ((a b : List (List ℕ)) → IsSame a b → DiskGoes (Moves k x.q move) a b)
@@ -254,7 +254,7 @@ tells_on : {config : Options} {g : Flow} {d : Pipeline} {connected issuing fetch
     {works : List Work} {pages : List ℕ} {said : List Line} (e : Ending) (move : Move) (next : Option ℕ) (status : Status)
     → (h : AreStations config g d connected issuing fetching (Some e) telling replying requests works pages)
     → 1 ≤ e.request.number
-    → (let x = h.taking e refl in let q : PipelineRequest = x.q in (station_after q.job move ≡ told_on status next) × (station_before q.job move ≡ finishing telling e.status)
+    → (let x = h.taking e refl in let q : PipelineRequest = x.q in (station_after q.submission move ≡ told_on status next) × (station_before q.submission move ≡ finishing telling e.status)
     × May d (e.request.number - 1) q move × (words_after move q.words ≡ q.words))
     → move_lines (e.request.number - 1) move ≡ said
     → ((a b : List (List ℕ)) → IsSame a b → DiskGoes (Moves (e.request.number - 1) (let x = h.taking e refl in x.q) move) a b)
@@ -392,7 +392,7 @@ submits config g d connected issuing fetching ending telling replying requests w
   };
 }
   where
-    job : Job
+    job : Submission
     job = submitted_job x.transfer x.sector x.count
 
     stands_last : StandsAt (d.requests ++ submitted job ∷ []) (x.number - 1) Waiting

@@ -80,7 +80,7 @@ freed_holds config w g d d' low high rep s ending t untold unarmed few h oldest 
       indices_taken,
       queued_without g.submitted w.front.requests g.pushed w.front.waiting f.place f.r f.here f.early h.queue,
       replies_without g.fetched g.taken g.replied g.replies rep oldest h.replies,
-      subst (λ (b : Bool). IsOffered b config.read_only config.indirect w.front.offers g.pushed) (sym i.ready) h.offered,
+      subst (λ (b : Bool). IsOffered b config w.front.offers g.pushed) (sym i.ready) h.offered,
       ring_turned h w.under.pages s refl i.ready (λ x other lt. refl) (λ page lt. record { flags = refl; frame = refl }),
       responses_left,
       kept.0,
@@ -208,7 +208,7 @@ last_goes config w g d low high told h =
     ends : IsEnding g.submitted (drop 1 g.replies) e
     ends = ending_taken config w g d (front.ResponseLast low high) rep h place.0.oldest found
 
-    its : IsSubmitted w.front.sectors (found.r.number - 1) found.r
+    its : IsSubmitted config.sectors (found.r.number - 1) found.r
     its = let submitted = h.submitted in submitted.each (found.r.number - 1) found.r ends.known
 
     by_frames : (b : Bool) → (frames_of found.r == 0) ≡ b → Becomes (if b then answered (freed w.front found.place) found.r rep.status else revokes (freed w.front found.place) found.r rep.status)

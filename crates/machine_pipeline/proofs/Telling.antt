@@ -47,7 +47,7 @@ more_read pages words r n sized read k lt = elim (cases_eq k (n % 128)) [
 pub record IsTelling (config : Options) (w : World) (g : Flow) (d : Pipeline) (ready : Bool) (n : ℕ) : Type 0 where
   pub untold : w.front.told ≡ None
   pub at : IsToldAt g.submitted g.replies w.front.ending n
-  pub submitted : AreSubmitted g.submitted w.front.sectors w.front.last
+  pub submitted : AreSubmitted g.submitted config.sectors w.front.last
   pub size : length w.front.words ≡ 128
   pub so_far : AreReadTo w.under.pages w.front.words w.front.ending n
   pub pool : ArePooled w.front.pool w.front.requests w.front.ending

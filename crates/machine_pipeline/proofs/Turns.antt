@@ -21,7 +21,7 @@ use Rattle.blk_front.specs.Ask as front_ask
 use Rattle.blk_front.specs.Step as front_step
 use Rattle.blk_back.specs.declared.stage.BackStage.{BackStage}
 use Rattle.blk_back.specs.declared.told.BackTold.{BackTold}
-use Rattle.blk_back.specs.declared.told.Halt.{Halt}
+use Rattle.blk_base.specs.declared.halt.Halt.{Halt}
 use Rattle.blk_back.specs.View as back
 use Rattle.blk_back.specs.Ask as back_ask
 use Rattle.blk_back.specs.Step as back_step
@@ -31,7 +31,7 @@ use Rattle.split_model.specs.Happening.{job_turn, job_after, job_shows}
 use Rattle.machine_pipeline.specs.Step.{Does, IsSame, CallOf}
 use Rattle.machine_pipeline.proofs.Flow.{Flow}
 use Rattle.machine_pipeline.proofs.Holds.{Holds}
-use Rattle.blk_base.specs.declared.config.Job.{Job}
+use Rattle.blk_base.specs.declared.config.Submission.{Submission}
 use Rattle.pipeline_laws.specs.Submissions.{submitted_at, submitted_of}
 use Rattle.machine_pipeline.proofs.Lists.{none_or_some}
 
@@ -60,14 +60,14 @@ back_says b w (Some a) =
     Move a.shown ∷ back_lines v.told a.answer ++ halt_lines w.back.halted v.halted
 
 -- the next machine, and the pipeline that it stands for: after the steps that were made
-pub record GoesBy (asked : Option Job) (call : (before after : List (List ℕ)) → Type 0) (config : Options) (said : List Line) (w : World) (d : Pipeline) : Type 0 where
+pub record GoesBy (asked : Option Submission) (call : (before after : List (List ℕ)) → Type 0) (config : Options) (said : List Line) (w : World) (d : Pipeline) : Type 0 where
   pub flow : Flow
   pub steps : List Step
   pub does : Does asked call said d steps
   pub holds : Holds config w flow (after_steps steps d) w.front.stage w.back.stage
 
 -- so it is by these steps, with what holds then
-pub goes_by : {asked : Option Job} {call : (before after : List (List ℕ)) → Type 0} {config : Options} {said : List Line} {w : World} {d : Pipeline} {steps : List Step} {g : Flow} → Does asked call said d steps → Holds config w g (after_steps steps d) w.front.stage w.back.stage → GoesBy asked call config said w d
+pub goes_by : {asked : Option Submission} {call : (before after : List (List ℕ)) → Type 0} {config : Options} {said : List Line} {w : World} {d : Pipeline} {steps : List Step} {g : Flow} → Does asked call said d steps → Holds config w g (after_steps steps d) w.front.stage w.back.stage → GoesBy asked call config said w d
 goes_by {steps = steps} {g = g} does holds = record { flow = g; steps = steps; does = does; holds = holds }
 
 -- where no call of the disk is made
@@ -100,7 +100,7 @@ pub silent : (shown : Shown) (told : Option BackTold) (halted : Option Halt) (an
 silent shown told halted answer d untold unhalted = rw (untold, unhalted) (nothing IsSame shown d (λ a b same. same))
 
 -- one step, with its lines, and what stands after it
-pub record Stepped (asked : Option Job) (call : (before after : List (List ℕ)) → Type 0) (d : Pipeline) (lines : List Line) (After : Pipeline → Type 0) : Type 0 where
+pub record Stepped (asked : Option Submission) (call : (before after : List (List ℕ)) → Type 0) (d : Pipeline) (lines : List Line) (After : Pipeline → Type 0) : Type 0 where
   pub step : Step
   pub allowed : IsAllowed d step
   pub shows : step_lines d step ≡ lines
@@ -116,10 +116,10 @@ submits_one : (s : Step) → submitted_of (s ∷ []) ≡ option_to_list (submitt
 submits_one s = submits_first s [] ∙ append-nil (option_to_list (submitted_at s))
 
 submits_two : (s t : Step) → submitted_of (s ∷ t ∷ []) ≡ option_to_list (submitted_at s) ++ option_to_list (submitted_at t)
-submits_two s t = submits_first s (t ∷ []) ∙ ap (λ (jobs : List Job). option_to_list (submitted_at s) ++ jobs) (submits_one t)
+submits_two s t = submits_first s (t ∷ []) ∙ ap (λ (jobs : List Submission). option_to_list (submitted_at s) ++ jobs) (submits_one t)
 
 -- a step after what tells nothing of a request
-does_shown : {asked : Option Job} {call : (before after : List (List ℕ)) → Type 0} {d : Pipeline} {lines : List Line} {After : Pipeline → Type 0} (asides : List Line) → list_all is_aside asides ≡ true → (s : Stepped asked call d lines After) → Does asked call (asides ++ lines) d (s.step ∷ [])
+does_shown : {asked : Option Submission} {call : (before after : List (List ℕ)) → Type 0} {d : Pipeline} {lines : List Line} {After : Pipeline → Type 0} (asides : List Line) → list_all is_aside asides ≡ true → (s : Stepped asked call d lines After) → Does asked call (asides ++ lines) d (s.step ∷ [])
 does_shown {d = d} asides aside s = record {
   asides = asides;
   aside = aside;
@@ -129,11 +129,11 @@ does_shown {d = d} asides aside s = record {
   disk = λ before after made. (after, s.disk before after made, refl);
 }
 
-pub does_step : {asked : Option Job} {call : (before after : List (List ℕ)) → Type 0} {d : Pipeline} {lines : List Line} {After : Pipeline → Type 0} (shown : Shown) (said : List Line) → said ≡ lines → (s : Stepped asked call d lines After) → Does asked call (Move shown ∷ said) d (s.step ∷ [])
+pub does_step : {asked : Option Submission} {call : (before after : List (List ℕ)) → Type 0} {d : Pipeline} {lines : List Line} {After : Pipeline → Type 0} (shown : Shown) (said : List Line) → said ≡ lines → (s : Stepped asked call d lines After) → Does asked call (Move shown ∷ said) d (s.step ∷ [])
 does_step shown said e s = rw e (does_shown (Move shown ∷ []) refl s)
 
 -- a step that shows its lines alone
-pub does_alone : {asked : Option Job} {call : (before after : List (List ℕ)) → Type 0} {d : Pipeline} {lines : List Line} {After : Pipeline → Type 0} (s : Stepped asked call d lines After) → Does asked call lines d (s.step ∷ [])
+pub does_alone : {asked : Option Submission} {call : (before after : List (List ℕ)) → Type 0} {d : Pipeline} {lines : List Line} {After : Pipeline → Type 0} (s : Stepped asked call d lines After) → Does asked call lines d (s.step ∷ [])
 does_alone s = does_shown [] refl s
 
 -- two steps, one after another

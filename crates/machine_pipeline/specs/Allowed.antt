@@ -2,11 +2,11 @@
 use Rattle.std.specs.Prelude.{◌≡◌, ℕ, ◌+◌, ◌^◌, ◌<◌, ◌≤◌, ◌==◌, Bool, true, false, List, [], ◌∷◌, All, is_some}
 use Rattle.std.specs.List.{range_with_len}
 use Rattle.line_text.specs.Texts.{is_key_path, is_key_text}
-use Rattle.schedule_text.specs.declared.line.Line.TheVariants.{Halt as HaltLine}
+use Rattle.schedule_text.specs.declared.line.Line.TheVariants as lines
 use Rattle.schedule_text.specs.Range.{IsInRange}
 use Rattle.event_channel.specs.Channels.{made_before}
-use Rattle.blk_base.specs.declared.config.Job.{Job}
-use Rattle.blk_base.specs.declared.config.Job.TheVariants.{Read, Write, Barrier, Flush, Discard}
+use Rattle.blk_base.specs.declared.config.Submission.{Submission}
+use Rattle.blk_base.specs.declared.config.Submission.TheVariants.{Read, Write, Barrier, Flush, Discard}
 use Rattle.blk_front.specs.declared.stage.FrontStage.{FrontStage}
 use Rattle.blk_front.specs.declared.stage.FrontStage.TheVariants.{RingWord}
 use Rattle.blk_front.specs.declared.state.FrontState.{FrontState}
@@ -19,16 +19,15 @@ use Rattle.blk_front.specs.State.{is_made}
 use Rattle.blk_front.specs.Submit.{is_connected}
 use Rattle.blk_back.specs.View as back
 use Rattle.blk_back.specs.declared.stage.BackStage.TheVariants.{Halted}
-use Rattle.blk_back.specs.declared.told.Halt.{Halt}
+use Rattle.blk_base.specs.declared.halt.Halt.{Halt}
 use Rattle.split_model.specs.World.{World, is_quiet, may_suspend}
 use Rattle.split_model.specs.Keys.{KeyMove, Gets, Sets, Watches, TakesWatch}
-use Rattle.split_model.specs.Shown.{halt_line}
 use Rattle.split_model.specs.Happening.{Happening, FrontMoves, BackMoves, JobMoves, Negotiates, FrontEnters, BackAttaches, BackHalts, Submits, Pokes, OverwritesKey, Suspends, Looks, Settles, is_guest_word, is_guest_key, happens}
 use Rattle.pipeline_laws.specs.Allowed.{is_farewell}
 use Rattle.hypervisor.specs.Act.{IsGiven}
 
 -- a read of some sectors, a write or a barrier of some whose tag has 32 bits, a flush, or a discard of some, whose number has 32 bits
-abbrev pub IsServable : Job → Type 0
+abbrev pub IsServable : Submission → Type 0
 IsServable (Read sector count) = 1 ≤ count
 IsServable (Write sector count tag) = (1 ≤ count) × (tag < 2 ^ 32)
 IsServable (Barrier sector count tag) = (1 ≤ count) × (tag < 2 ^ 32)
@@ -47,8 +46,10 @@ abbrev pub is_free : FrontStage → Bool
 is_free (RingWord k) = k == 0
 is_free s = is_made s
 
--- what the front takes its back to serve is what the back published
+-- what the front takes the disk to be, and its back to serve, is what the back published
 pub record ArePublished (w : World) (offers : Offers) : Type 0 where
+  pub sectors : offers.sectors ≡ (let v : back.View = w.back in v.jobs.info.sectors)
+  pub read_only : offers.read_only ≡ (let v : back.View = w.back in v.jobs.info.read_only)
   pub barrier : offers.barrier ≡ (let v : back.View = w.back in v.jobs.info.barrier)
   pub flush : offers.flush ≡ (let v : back.View = w.back in v.jobs.info.flush)
   pub discard : offers.discard ≡ (let v : back.View = w.back in v.jobs.info.discard)
@@ -65,7 +66,7 @@ MayEnter w state = Unit {0}
 
 -- the line of a halt is one of the grammar
 abbrev pub IsSaid : Halt → Type 0
-IsSaid why = IsInRange (HaltLine (halt_line why))
+IsSaid why = IsInRange (lines.Halt why)
 
 -- the terms are the front's own: its shape, the references of its ring's frames, which count from 8, and its port, the first one since the domain was last suspended
 pub record AreTerms (w : World) (shape : Shape) (grefs : List ℕ) (port : ℕ) : Type 0 where
@@ -75,7 +76,7 @@ pub record AreTerms (w : World) (shape : Shape) (grefs : List ℕ) (port : ℕ) 
 
 -- a halt that is asked for: the front closes, has no request left, and is at nothing
 pub record IsFarewell (w : World) (why : Halt) : Type 0 where
-  pub gone : is_farewell (halt_line why) ≡ true
+  pub gone : is_farewell why ≡ true
   pub through : is_through w.front ≡ true
   pub free : is_free w.front.stage ≡ true
   pub said : IsSaid why
@@ -101,9 +102,10 @@ abbrev pub AreServed : List Happening → World → Type 0
 AreServed [] w = Unit {0}
 AreServed (h ∷ hs) w = IsServed w h × AreServed hs (happens w h)
 
--- a state that breaks the front is a word, and an order that is agreed is the one that the front wished
+-- a state that breaks the front is a word, an order that is agreed is the one that the front wished, and the sectors of the disk have numbers of 64 bits
 abbrev pub IsStated : World → FrontState → Type 0
 IsStated w (Agreed order) = let v : front.View = w.front in order ≡ v.shape.order
+IsStated w (Connected offers) = offers.sectors < 2 ^ 64
 IsStated w (Broken word) = word < 2 ^ 32
 IsStated w state = Unit {0}
 

@@ -7,7 +7,7 @@ use Rattle.pipeline_laws.specs.Pipeline.{Pipeline, Step, after_steps, lines_of}
 use Rattle.pipeline_laws.specs.Allowed.{AreAllowed, is_aside}
 use Rattle.pipeline_laws.specs.Disk.{DiskRuns}
 use Rattle.pipeline_laws.specs.Submissions.{submitted_of}
-use Rattle.blk_base.specs.declared.config.Job.{Job}
+use Rattle.blk_base.specs.declared.config.Submission.{Submission}
 use Rattle.blk_base.specs.declared.ask.BackAsk.{BackAsk}
 use Rattle.hypervisor.specs.Act.{Outcome}
 use Rattle.blk_back.specs.Step.{job_ask_of}
@@ -30,7 +30,7 @@ CallAt w (JobMoves number outcome) = CallOf (job_ask_of w.back number) outcome
 CallAt w h = IsSame
 
 -- what is shown is the lines of these steps, after lines that tell nothing of a request (a move of the machine); they submit what was submitted (`asked`); the pipeline allows them, and their calls of the disk are the one that was made (`call`)
-pub record Does (asked : Option Job) (call : (before after : List (List ℕ)) → Type 0) (shown : List Line) (d : Pipeline) (steps : List Step) : Type 0 where
+pub record Does (asked : Option Submission) (call : (before after : List (List ℕ)) → Type 0) (shown : List Line) (d : Pipeline) (steps : List Step) : Type 0 where
   pub asides : List Line
   pub aside : list_all is_aside asides ≡ true
   pub shows : shown ≡ asides ++ lines_of steps d

@@ -6,7 +6,7 @@ use Rattle.hypervisor.specs.Act.{FrontAct, BackAct, Outcome, Took}
 use Rattle.split_model.specs.World.{World, start_of}
 use Rattle.split_model.specs.Happening.{Happening, FrontMoves, BackMoves, JobMoves, FrontEnters, BackAttaches, BackHalts, Submits, Suspends, Dumps, happens, front_after, back_after, job_after, front_turn, back_turn, job_turn}
 use Rattle.blk_front.proofs.Shapes.{few_pages}
-use Rattle.blk_back.specs.declared.told.Halt.TheVariants as halt
+use Rattle.blk_base.specs.declared.halt.Halt.TheVariants as halt
 use Rattle.blk_back.specs.View as back
 use Rattle.split_model.proofs.Attaching.{attach_cases}
 use Rattle.split_model.proofs.Suspending.{suspend_cases, begun_back, back_cases}

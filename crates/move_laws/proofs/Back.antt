@@ -17,8 +17,8 @@ use Rattle.segment_list.specs.declared.verdict.DiskInfo.{DiskInfo}
 use Rattle.back_jobs.specs.Work.{Work, IsAnswer as IsJobAnswer}
 use Rattle.back_jobs.specs.Jobs.{place_of, work_of, waits, ask_job, first_mapping, is_done}
 use Rattle.back_jobs.specs.Hands.{hands_in, Names}
-use Rattle.blk_back.specs.declared.told.Halt.{Halt}
-use Rattle.blk_back.specs.declared.told.Halt.TheVariants as halt
+use Rattle.blk_base.specs.declared.halt.Halt.{Halt}
+use Rattle.blk_base.specs.declared.halt.Halt.TheVariants as halt
 use Rattle.blk_back.specs.declared.stage.Reply.{Reply}
 use Rattle.blk_back.specs.declared.stage.BackStage.{BackStage}
 use Rattle.blk_back.specs.declared.stage.BackStage.TheVariants as stage

@@ -14,7 +14,7 @@ use Rattle.hypervisor.specs.Suspend.{tables_cleared}
 use Rattle.grant_table.specs.Sound.{IsGrantable}
 use Rattle.schedule_text.specs.declared.line.Line.{Line}
 use Rattle.schedule_text.specs.declared.line.Line.TheVariants as lines
-use Rattle.schedule_text.specs.declared.line.Halt.{Halt as HaltLine}
+use Rattle.blk_base.specs.declared.halt.Halt.{Halt}
 use Rattle.schedule_text.specs.declared.line.Detail.{Detail}
 use Rattle.hypervisor.specs.Act.{FrontAct, BackAct, Outcome, Took}
 use Rattle.report_rules.specs.Obeys.{Obeys}
@@ -56,7 +56,7 @@ follow_move before more shown pages pages' table table' follows kept plain =
     let one : Follows (before ++ lines.Move shown ∷ []) pages' table' = follow_one before (lines.Move shown) pages pages' table table' follows kept.allowed kept.tells in
     subst (λ (ls : List Line). Follows ls pages' table') (append_assoc before (lines.Move shown ∷ []) more) (follow_plain more (before ++ lines.Move shown ∷ []) pages' table' plain one)
 
-plain_halt : (why : HaltLine) → IsPlain (lines.Halt why)
+plain_halt : (why : Halt) → IsPlain (lines.Halt why)
 plain_halt why = record { is_still = still (lines.Halt why) refl (λ f w v b. refl) (λ n. refl) refl; free = λ b. record { coherent = tt; answered = tt; numbered = tt; touched = tt; grantable = tt } }
 
 no_lines : (before : List Line) (w : World) → FollowsTo before w → FollowsTo (before ++ []) w

@@ -4,7 +4,7 @@ use Rattle.std.specs.Prelude.{Option, Some, None, option_map, slice_get, nat_lt}
 use Rattle.std.proofs.lemmas.Bool.{and_parts}
 use Rattle.std.proofs.lemmas.Bool.Decides.{nat_tests}
 use Rattle.std.proofs.lemmas.Option.{none-some, same_Some, cond_some, slice_get-map, slice_get_past}
-use Rattle.blk_base.specs.declared.config.Job.{Job}
+use Rattle.blk_base.specs.declared.config.Submission.{Submission}
 use Rattle.blk_base.specs.declared.operation.Status.{Status}
 use Rattle.schedule_text.specs.declared.line.Line.{Line}
 use Rattle.schedule_text.specs.declared.line.Line.TheVariants as lines
@@ -112,23 +112,23 @@ Counts line id d d' = IsCounted line id (request_of d.requests id) (request_of d
 all_stay : (line : Line) (id : ℕ) (d d' : Disk) → is_submission_of id line ≡ false → is_answer_of id line ≡ false → d'.requests ≡ d.requests → Counts line id d d'
 all_stay line id d d' s a same = subst (λ (rs : List DiskRequest). IsCounted line id (request_of d.requests id) (request_of rs id)) (sym same) (counts_none line id (request_of d.requests id) s a)
 
-submit_counts : (d d' : Disk) (n id : ℕ) (job : Job) → step d (lines.Submit n job) ≡ Some d' → Counts (lines.Submit n job) id d d'
-submit_counts d d' n id job e = where_passed (Counts (lines.Submit n job) id d) _ _ d' (λ t. by_test (numbered t) (n == id) refl) e
+submit_counts : (d d' : Disk) (n id : ℕ) (submission : Submission) → step d (lines.Submit n submission) ≡ Some d' → Counts (lines.Submit n submission) id d d'
+submit_counts d d' n id submission e = where_passed (Counts (lines.Submit n submission) id d) _ _ d' (λ t. by_test (numbered t) (n == id) refl) e
   where
     numbered : (n == length d.requests + 1) ≡ true → n ≡ length d.requests + 1
     numbered t = grind (arith, nat_tests)
 
-    by_test : n ≡ length d.requests + 1 → (b : Bool) → (n == id) ≡ b → IsCounted (lines.Submit n job) id (request_of d.requests id) (request_of (d.requests ++ opened job ∷ []) id)
+    by_test : n ≡ length d.requests + 1 → (b : Bool) → (n == id) ≡ b → IsCounted (lines.Submit n submission) id (request_of d.requests id) (request_of (d.requests ++ opened submission ∷ []) id)
     by_test next true t =
         let same : id ≡ length d.requests + 1 = grind (arith, nat_tests) in
         let before : request_of d.requests id ≡ None = none_past d.requests id (omega arith) in
         let place : id - 1 ≡ length d.requests = omega arith in
-        let now : request_of (d.requests ++ opened job ∷ []) id ≡ Some (opened job) = request_at (d.requests ++ opened job ∷ []) id (opened job) (omega arith) (ap (slice_get (d.requests ++ opened job ∷ [])) place ∙ get_last d.requests (opened job)) in
+        let now : request_of (d.requests ++ opened submission ∷ []) id ≡ Some (opened submission) = request_at (d.requests ++ opened submission ∷ []) id (opened submission) (omega arith) (ap (slice_get (d.requests ++ opened submission ∷ [])) place ∙ get_last d.requests (opened submission)) in
         record { submitted = rw (before, now, t) refl; answered = rw (before, now) refl }
     by_test next false t =
         let apart : length d.requests + 1 ≢ id = grind (arith, nat_tests) in
-        subst (λ (o : Option DiskRequest). IsCounted (lines.Submit n job) id (request_of d.requests id) o) (sym (append_other d.requests (opened job) id apart))
-        (counts_none (lines.Submit n job) id (request_of d.requests id) t refl)
+        subst (λ (o : Option DiskRequest). IsCounted (lines.Submit n submission) id (request_of d.requests id) o) (sym (append_other d.requests (opened submission) id apart))
+        (counts_none (lines.Submit n submission) id (request_of d.requests id) t refl)
 
 effect_stays : (d d' : Disk) (n index : ℕ) (r : Option DiskRequest) → effect_of d n index r ≡ Some d' → d'.requests ≡ d.requests
 effect_stays d d' n index None e = absurd (none-some d' e)
@@ -154,8 +154,8 @@ reply_counts : (d d' : Disk) (n id : ℕ) (status : Status) (o : Option DiskRequ
 reply_counts d d' n id status None at e = absurd (none-some d' e)
 reply_counts d d' n id status (Some r) at e = where_passed (Counts (lines.Reply n status) id d) _ _ d' (λ t. one_changes (lines.Reply n status) d.requests n id r _ at (stays_open (lines.Reply n status) n r _ refl refl refl) (λ apart. (refl, refl))) e
 
-told_closed : (job : Job) (status : Status) → is_open (told_stage job status) ≡ false
-told_closed job status = by_read (is_read job) (is_okay status)
+told_closed : (submission : Submission) (status : Status) → is_open (told_stage submission status) ≡ false
+told_closed submission status = by_read (is_read submission) (is_okay status)
   where
     by_read : (a b : Bool) → is_open (if a && b then Telling 0 else Finished) ≡ false
     by_read true true = refl
@@ -166,13 +166,13 @@ answer_counts : (d d' : Disk) (n id : ℕ) (status : Status) (o : Option DiskReq
 answer_counts d d' n id status None at e = absurd (none-some d' e)
 answer_counts d d' n id status (Some r) at e = where_passed (Counts (lines.Answer n status) id d) _ _ d' (λ t. one_changes (lines.Answer n status) d.requests n id r _ at (closes (and_parts (is_open r.stage) _ t).0) (λ apart. (refl, grind (arith, nat_tests)))) e
   where
-    closes : is_open r.stage ≡ true → IsCounted (lines.Answer n status) n (Some r) (Some (record r { stage = told_stage r.job status }))
+    closes : is_open r.stage ≡ true → IsCounted (lines.Answer n status) n (Some r) (Some (record r { stage = told_stage r.submission status }))
     closes is =
         let here : (n == n) ≡ true = grind (arith, nat_tests) in
-        record { submitted = refl; answered = rw (is, told_closed r.job status, here) refl }
+        record { submitted = refl; answered = rw (is, told_closed r.submission status, here) refl }
 
-next_closed : (job : Job) (index : ℕ) → is_open (next_stage job index) ≡ false
-next_closed job index = by_last (nat_lt (index + 1) (places_of job))
+next_closed : (submission : Submission) (index : ℕ) → is_open (next_stage submission index) ≡ false
+next_closed submission index = by_last (nat_lt (index + 1) (places_of submission))
   where
     by_last : (b : Bool) → is_open (if b then Telling (index + 1) else Finished) ≡ false
     by_last true = refl
@@ -185,7 +185,7 @@ telling_closed Finished index t = refl
 
 data_counts : (d d' : Disk) (n index id : ℕ) (words : List ℕ) (o : Option DiskRequest) → request_of d.requests n ≡ o → data_of d n index words o ≡ Some d' → Counts (lines.Data n index words) id d d'
 data_counts d d' n index id words None at e = absurd (none-some d' e)
-data_counts d d' n index id words (Some r) at e = where_passed (Counts (lines.Data n index words) id d) _ _ d' (λ t. one_changes (lines.Data n index words) d.requests n id r _ at (stays_open (lines.Data n index words) n r _ refl refl (next_closed r.job index ∙ sym (telling_closed r.stage index (and_parts (is_next r.stage index) _ t).0))) (λ apart. (refl, refl))) e
+data_counts d d' n index id words (Some r) at e = where_passed (Counts (lines.Data n index words) id d) _ _ d' (λ t. one_changes (lines.Data n index words) d.requests n id r _ at (stays_open (lines.Data n index words) n r _ refl refl (next_closed r.submission index ∙ sym (telling_closed r.stage index (and_parts (is_next r.stage index) _ t).0))) (λ apart. (refl, refl))) e
 
 reopened_open : (r : DiskRequest) → is_open (reopened r).stage ≡ is_open r.stage
 reopened_open r = by_stage (is_open r.stage)
@@ -207,7 +207,7 @@ epoch_counts requests id = subst (λ (o : Option DiskRequest). IsCounted lines.E
 
 -- every line
 pub line_counts : (d d' : Disk) (line : Line) (id : ℕ) → step d line ≡ Some d' → IsCounted line id (request_of d.requests id) (request_of d'.requests id)
-line_counts d d' (lines.Submit n job) id e = submit_counts d d' n id job e
+line_counts d d' (lines.Submit n submission) id e = submit_counts d d' n id submission e
 line_counts d d' (lines.Effect n index) id e = all_stay (lines.Effect n index) id d d' refl refl (effect_stays d d' n index (request_of d.requests n) e)
 line_counts d d' (lines.EffectRead n index words) id e = all_stay (lines.EffectRead n index words) id d d' refl refl (read_stays d d' n index words (request_of d.requests n) e)
 line_counts d d' (lines.Flushed n) id e = all_stay (lines.Flushed n) id d d' refl refl (flushed_stays d d' n (request_of d.requests n) e)

@@ -4,8 +4,8 @@ use Rattle.std.specs.Prelude.{Option, Some, slice_get, slice_set, nat_lt}
 use Rattle.std.proofs.lemmas.Cmp.{nat_list_eq_equiv}
 use Rattle.std.proofs.lemmas.Option.{none-some}
 use Rattle.std.proofs.lemmas.Bool.Decides.{nat_tests}
-use Rattle.blk_base.specs.declared.config.Job.{Job}
-use Rattle.blk_base.specs.declared.config.Job.TheVariants.{Read}
+use Rattle.blk_base.specs.declared.config.Submission.{Submission}
+use Rattle.blk_base.specs.declared.config.Submission.TheVariants.{Read}
 use Rattle.blk_base.specs.declared.operation.Status.{Status}
 use Rattle.blk_base.specs.declared.operation.Status.TheVariants as status
 use Rattle.schedule_text.specs.declared.line.Line.TheVariants as lines
@@ -43,27 +43,27 @@ fresh_long true = refl
 fresh_long false = tt
 
 -- a move without a line
-pub goes_on : (p : Pipeline) (d : Disk) (content : List (List ℕ)) (k : ℕ) (x : PipelineRequest) (move : Move) → move_lines k move ≡ [] → May p k x move → IsAt p k x (station_before x.job move) → Matches p d content → Leads (next p (Moves k x move)) d (move_lines k move) content
+pub goes_on : (p : Pipeline) (d : Disk) (content : List (List ℕ)) (k : ℕ) (x : PipelineRequest) (move : Move) → move_lines k move ≡ [] → May p k x move → IsAt p k x (station_before x.submission move) → Matches p d content → Leads (next p (Moves k x move)) d (move_lines k move) content
 goes_on p d content k x move silent may at m = by_move move silent may at.there
   where
     was : IsTold d.done d.noted k x
     was = m.each k x at.here
 
-    done : (station : Station) → x.station ≡ station → IsDone d.done (k + 1) (done_at x.job station)
-    done station e = subst (λ s. IsDone d.done (k + 1) (done_at x.job s)) e was.done
+    done : (station : Station) → x.station ≡ station → IsDone d.done (k + 1) (done_at x.submission station)
+    done station e = subst (λ s. IsDone d.done (k + 1) (done_at x.submission s)) e was.done
 
     served : (station : Station) → x.station ≡ station → is_unserved station ≡ false
     served station e = subst (λ s. is_unserved s ≡ false) e was.served
 
-    same : (station : Station) → x.station ≡ station → asked_at x.job station ≡ asked x
-    same station e = ap (asked_at x.job) (sym e)
+    same : (station : Station) → x.station ≡ station → asked_at x.submission station ≡ asked x
+    same station e = ap (asked_at x.submission) (sym e)
 
-    by_move : (mv : Move) → move_lines k mv ≡ [] → May p k x mv → x.station ≡ station_before x.job mv → Leads (next p (Moves k x mv)) d (move_lines k mv) content
+    by_move : (mv : Move) → move_lines k mv ≡ [] → May p k x mv → x.station ≡ station_before x.submission mv → Leads (next p (Moves k x mv)) d (move_lines k mv) content
     by_move BeginsEntry none may e = stays p d content _ k x (moved x BeginsEntry) at.here (same Waiting e) (record { done = done Waiting e; noted = was.noted; long = tt; served = refl }) m
     by_move Pushes none may e = stays p d content _ k x (moved x Pushes) at.here (same Issuing e) (record { done = done Issuing e; noted = was.noted; long = tt; served = refl }) m
     by_move BeginsFetch none may e = stays p d content _ k x (moved x BeginsFetch) at.here (same Pushed e) (record { done = done Pushed e; noted = was.noted; long = tt; served = refl }) m
-    by_move Fetches none may e = stays p d content _ k x (moved x Fetches) at.here (same Fetching e) (record { done = done Fetching e; noted = λ i w f. absurd (none-some w f); long = fresh_long (is_read x.job); served = refl }) m
-    by_move (Ends status.Okay) none may e = stays p d content _ k x (moved x (Ends status.Okay)) at.here (same (Working (places_of x.job)) e) (record { done = done (Working (places_of x.job)) e; noted = was.noted; long = tt; served = refl }) m
+    by_move Fetches none may e = stays p d content _ k x (moved x Fetches) at.here (same Fetching e) (record { done = done Fetching e; noted = λ i w f. absurd (none-some w f); long = fresh_long (is_read x.submission); served = refl }) m
+    by_move (Ends status.Okay) none may e = stays p d content _ k x (moved x (Ends status.Okay)) at.here (same (Working (places_of x.submission)) e) (record { done = done (Working (places_of x.submission)) e; noted = was.noted; long = tt; served = refl }) m
     by_move (Ends status.Error) none may e = stays p d content _ k x (moved x (Ends status.Error)) at.here (same Failed e) (record { done = tt; noted = was.noted; long = tt; served = refl }) m
     by_move (Ends status.Unsupported) none may e = absurd may
     by_move (BeginsResponse s) none may e = stays p d content _ k x (moved x (BeginsResponse s)) at.here (same (Ended s) e) (record { done = done (Ended s) e; noted = was.noted; long = tt; served = served (Ended s) e }) m
@@ -87,21 +87,21 @@ replies p d content k x s at m = by_status s at
     was : IsTold d.done d.noted k x
     was = m.each k x at.here
 
-    later : (t : Status) (r : DiskRequest) → r ≡ asked_at x.job (Replied t) → Matches (next p (Moves k x (Replies t))) (record d { requests = with_request d.requests (k + 1) r }) content
+    later : (t : Status) (r : DiskRequest) → r ≡ asked_at x.submission (Replied t) → Matches (next p (Moves k x (Replies t))) (record d { requests = with_request d.requests (k + 1) r }) content
     later t r e = changed p d content _ k x (moved x (Replies t)) r at.here e (record { done = tt; noted = was.noted; long = tt; served = refl }) m
 
     by_status : (t : Status) → IsAt p k x (Replying t) → Leads (next p (Moves k x (Replies t))) d (move_lines k (Replies t)) content
     by_status status.Okay a =
-        let done : IsDoneTo d.done (k + 1) (places_of x.job) = subst (λ st. IsDone d.done (k + 1) (done_at x.job st)) a.there was.done in
+        let done : IsDoneTo d.done (k + 1) (places_of x.submission) = subst (λ st. IsDone d.done (k + 1) (done_at x.submission st)) a.there was.done in
         let count = done.count in
-        let all : (done_count d.done (k + 1) == places_of x.job) ≡ true = grind (arith, nat_tests) in
+        let all : (done_count d.done (k + 1) == places_of x.submission) ≡ true = grind (arith, nat_tests) in
         record {
-          disk = record d { requests = with_request d.requests (k + 1) (asked_at x.job (Replied status.Okay)) };
+          disk = record d { requests = with_request d.requests (k + 1) (asked_at x.submission (Replied status.Okay)) };
           run = one_line d _ (lines.Reply (k + 1) status.Okay) (rw (asked_here p d content k x (Replying status.Okay) m a, all) refl);
           matches = later status.Okay _ refl;
         }
     by_status status.Error a = record {
-      disk = record d { requests = with_request d.requests (k + 1) (asked_at x.job (Replied status.Error)) };
+      disk = record d { requests = with_request d.requests (k + 1) (asked_at x.submission (Replied status.Error)) };
       run = one_line d _ (lines.Reply (k + 1) status.Error) (rw (asked_here p d content k x (Replying status.Error) m a) refl);
       matches = later status.Error _ refl;
     }
@@ -116,9 +116,9 @@ same_status status.Error = refl
 same_status status.Unsupported = refl
 
 -- an answered request has nothing done that counts
-told_either : (b : Bool) (done : List Place) (id n : ℕ) (job : Job) (s : Status) → IsDone done id (done_at job (if b then Telling n else Finished s))
-told_either true done id n job s = tt
-told_either false done id n job s = tt
+told_either : (b : Bool) (done : List Place) (id n : ℕ) (submission : Submission) (s : Status) → IsDone done id (done_at submission (if b then Telling n else Finished s))
+told_either true done id n submission s = tt
+told_either false done id n submission s = tt
 
 long_either : (b reads : Bool) (n : ℕ) (s : Status) (words : List (List ℕ)) → IsLong (if b then Telling n else Finished s) reads words
 long_either true reads n s words = tt
@@ -128,30 +128,30 @@ served_either : (b : Bool) (n : ℕ) (s : Status) → is_unserved (if b then Tel
 served_either true n s = refl
 served_either false n s = refl
 
-answered_as : (job : Job) (s : Status) → record (asked_at job (Taking s)) { stage = told_stage job s } ≡ asked_at job (answered_station job s)
+answered_as : (submission : Submission) (s : Status) → record (asked_at submission (Taking s)) { stage = told_stage submission s } ≡ asked_at submission (answered_station submission s)
 answered_as (Read sector count) status.Okay = refl
 answered_as (Read sector count) status.Error = refl
 answered_as (Read sector count) status.Unsupported = refl
-answered_as job s = refl
+answered_as submission s = refl
 
 pub answers : (p : Pipeline) (d : Disk) (content : List (List ℕ)) (k : ℕ) (x : PipelineRequest) (s : Status) → IsAt p k x (Taking s) → Matches p d content → Leads (next p (Moves k x (Answers s))) d (move_lines k (Answers s)) content
 answers p d content k x s at m =
-    let read : Bool = is_read x.job && is_okay s in
+    let read : Bool = is_read x.submission && is_okay s in
     record {
-      disk = record d { requests = with_request d.requests (k + 1) (record (asked_at x.job (Taking s)) { stage = told_stage x.job s }) };
+      disk = record d { requests = with_request d.requests (k + 1) (record (asked_at x.submission (Taking s)) { stage = told_stage x.submission s }) };
       run = one_line d _ (lines.Answer (k + 1) s) (rw (asked_here p d content k x (Taking s) m at, same_status s) refl);
-      matches = changed p d content _ k x (moved x (Answers s)) _ at.here (answered_as x.job s)
-          (record { done = told_either read d.done (k + 1) 0 x.job s; noted = (m.each k x at.here).noted; long = long_either read (is_read x.job) 0 s x.words; served = served_either read 0 s }) m;
+      matches = changed p d content _ k x (moved x (Answers s)) _ at.here (answered_as x.submission s)
+          (record { done = told_either read d.done (k + 1) 0 x.submission s; noted = (m.each k x at.here).noted; long = long_either read (is_read x.submission) 0 s x.words; served = served_either read 0 s }) m;
     }
 
 -- a sector of a read is told
 same_noted : (noted : Option (List ℕ)) (words : List ℕ) → noted ≡ Some words → are_noted noted words ≡ true
 same_noted noted words e = rw e (nat_list_eq_equiv.refl words)
 
-told_as : (job : Job) (n : ℕ) → record (asked_at job (Telling n)) { stage = next_stage job n } ≡ asked_at job (told_station job n)
-told_as job n = by_test (nat_lt (n + 1) (places_of job))
+told_as : (submission : Submission) (n : ℕ) → record (asked_at submission (Telling n)) { stage = next_stage submission n } ≡ asked_at submission (told_station submission n)
+told_as submission n = by_test (nat_lt (n + 1) (places_of submission))
   where
-    by_test : (b : Bool) → record (asked_at job (Telling n)) { stage = if b then stage.Telling (n + 1) else stage.Finished } ≡ asked_at job (if b then Telling (n + 1) else Finished status.Okay)
+    by_test : (b : Bool) → record (asked_at submission (Telling n)) { stage = if b then stage.Telling (n + 1) else stage.Finished } ≡ asked_at submission (if b then Telling (n + 1) else Finished status.Okay)
     by_test true = refl
     by_test false = refl
 
@@ -159,10 +159,10 @@ pub tells : (p : Pipeline) (d : Disk) (content : List (List ℕ)) (k : ℕ) (x :
 tells p d content k x n words at has m =
     let was = m.each k x at.here in
     let next_one : (n == n) ≡ true = grind (arith, nat_tests) in
-    let more : Bool = nat_lt (n + 1) (places_of x.job) in
+    let more : Bool = nat_lt (n + 1) (places_of x.submission) in
     record {
-      disk = record d { requests = with_request d.requests (k + 1) (record (asked_at x.job (Telling n)) { stage = next_stage x.job n }) };
+      disk = record d { requests = with_request d.requests (k + 1) (record (asked_at x.submission (Telling n)) { stage = next_stage x.submission n }) };
       run = one_line d _ (lines.Data (k + 1) n words) (rw (asked_here p d content k x (Telling n) m at, next_one, same_noted (noted_at d.noted (k + 1) n) words (was.noted n words has)) refl);
-      matches = changed p d content _ k x (moved x (Tells n words)) _ at.here (told_as x.job n)
-          (record { done = told_either more d.done (k + 1) (n + 1) x.job status.Okay; noted = was.noted; long = long_either more (is_read x.job) (n + 1) status.Okay x.words; served = served_either more (n + 1) status.Okay }) m;
+      matches = changed p d content _ k x (moved x (Tells n words)) _ at.here (told_as x.submission n)
+          (record { done = told_either more d.done (k + 1) (n + 1) x.submission status.Okay; noted = was.noted; long = long_either more (is_read x.submission) (n + 1) status.Okay x.words; served = served_either more (n + 1) status.Okay }) m;
     }

@@ -107,19 +107,19 @@ takes_named requests ring k x y response here before n = record {
     later i j from e same = n.apart ring.taken i k (omega arith) (omega arith) response (e ∙ ap (λ (l : ℕ). Some l) same)
 
 -- each move
-pub move_named : (p : Pipeline) (k : ℕ) (x : PipelineRequest) (move : Move) → ((i j l m : ℕ) → i < j → slice_get p.ring.pushed i ≡ Some l → slice_get p.ring.pushed j ≡ Some m → l < m) → IsAt p k x (station_before x.job move) → May p k x move → IsNamed p.requests p.ring
+pub move_named : (p : Pipeline) (k : ℕ) (x : PipelineRequest) (move : Move) → ((i j l m : ℕ) → i < j → slice_get p.ring.pushed i ≡ Some l → slice_get p.ring.pushed j ≡ Some m → l < m) → IsAt p k x (station_before x.submission move) → May p k x move → IsNamed p.requests p.ring
     → IsNamed (slice_set p.requests k (moved x move)) (ring_after p.ring k move)
 move_named p k x move ascending at may n = by_move move at may
   where
-    before : (m : Move) → IsAt p k x (station_before x.job m) → section_of x.station ≡ section_before m
-    before m a = ap section_of a.there ∙ before_section x.job m
+    before : (m : Move) → IsAt p k x (station_before x.submission m) → section_of x.station ≡ section_before m
+    before m a = ap section_of a.there ∙ before_section x.submission m
 
-    by_move : (m : Move) → IsAt p k x (station_before x.job m) → May p k x m → IsNamed (slice_set p.requests k (moved x m)) (ring_after p.ring k m)
+    by_move : (m : Move) → IsAt p k x (station_before x.submission m) → May p k x m → IsNamed (slice_set p.requests k (moved x m)) (ring_after p.ring k m)
     by_move Pushes a may = pushes_named p.requests p.ring k x (moved x Pushes) a.here (before Pushes a) refl n
     by_move Fetches a may = fetches_named p.requests p.ring k x (moved x Fetches) ascending may a.here (before Fetches a) n
     by_move (Replies s) a may = replies_named p.requests p.ring k x (moved x (Replies s)) a.here (before (Replies s) a) refl n
     by_move (Takes s) a may = takes_named p.requests p.ring k x (moved x (Takes s)) may a.here (before (Takes s) a) n
-    by_move m a may = stays_named p.requests p.ring k x (moved x m) a.here (after_section x.job m ∙ sym (before m a)) n
+    by_move m a may = stays_named p.requests p.ring k x (moved x m) a.here (after_section x.submission m ∙ sym (before m a)) n
 
 -- a submission, and a new epoch
 pub submit_named : (requests : List PipelineRequest) (ring : Ring) (x : PipelineRequest) → IsNamed requests ring → IsNamed (requests ++ x ∷ []) ring

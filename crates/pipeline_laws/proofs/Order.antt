@@ -4,7 +4,7 @@ use Rattle.std.specs.Prelude.{Some, slice_get, slice_set, nat_lt}
 use Rattle.std.proofs.lemmas.Option.{none-some, same_Some, slice_get_within}
 use Rattle.std.proofs.lemmas.List.{length_push}
 use Rattle.std.proofs.lemmas.Bool.{cases_order}
-use Rattle.blk_base.specs.declared.config.Job.{Job}
+use Rattle.blk_base.specs.declared.config.Submission.{Submission}
 use Rattle.blk_base.specs.declared.operation.Status.{Status}
 use Rattle.blk_base.specs.declared.operation.Status.TheVariants as status
 use Rattle.plain_disk.specs.Request.{is_read, places_of}
@@ -161,7 +161,7 @@ answered_past : (pushed : List ℕ) (fetched k next : ℕ) (status : Status) (b 
 answered_past pushed fetched k next status true = tt
 answered_past pushed fetched k next status false = tt
 
-pub move_ordered : (p : Pipeline) (k : ℕ) (x : PipelineRequest) (move : Move) → IsAt p k x (station_before x.job move) → May p k x move → IsOrdered p.requests p.ring.pushed p.ring.fetched
+pub move_ordered : (p : Pipeline) (k : ℕ) (x : PipelineRequest) (move : Move) → IsAt p k x (station_before x.submission move) → May p k x move → IsOrdered p.requests p.ring.pushed p.ring.fetched
     → IsOrdered (slice_set p.requests k (moved x move)) (ring_after p.ring k move).pushed (ring_after p.ring k move).fetched
 move_ordered p k x move at may o = by_move move at may
   where
@@ -171,7 +171,7 @@ move_ordered p k x move at may o = by_move move at may
     stays : (y : PipelineRequest) → IsPlaced p.ring.pushed p.ring.fetched k y → IsOrdered (slice_set p.requests k y) p.ring.pushed p.ring.fetched
     stays y new = stays_ordered p.requests p.ring.pushed p.ring.fetched k y new o
 
-    by_move : (m : Move) → IsAt p k x (station_before x.job m) → May p k x m → IsOrdered (slice_set p.requests k (moved x m)) (ring_after p.ring k m).pushed (ring_after p.ring k m).fetched
+    by_move : (m : Move) → IsAt p k x (station_before x.submission m) → May p k x m → IsOrdered (slice_set p.requests k (moved x m)) (ring_after p.ring k m).pushed (ring_after p.ring k m).fetched
     by_move BeginsEntry a may = stays (moved x BeginsEntry) (was Waiting a.there)
     by_move Pushes a may = pushes_ordered p k x a may o
     by_move BeginsFetch a may = stays (moved x BeginsFetch) (was Pushed a.there)
@@ -181,21 +181,21 @@ move_ordered p k x move at may o = by_move move at may
     by_move Flushes a may = stays (moved x Flushes) (was (Working 0) a.there)
     by_move Trims a may = stays (moved x Trims) (was (Working 0) a.there)
     by_move (Fails index) a may = stays (moved x (Fails index)) (was (Working index) a.there)
-    by_move (Ends status.Okay) a may = stays (moved x (Ends status.Okay)) (was (Working (places_of x.job)) a.there)
+    by_move (Ends status.Okay) a may = stays (moved x (Ends status.Okay)) (was (Working (places_of x.submission)) a.there)
     by_move (Ends status.Error) a may = stays (moved x (Ends status.Error)) (was Failed a.there)
     by_move (Ends status.Unsupported) a may = absurd may
     by_move (BeginsResponse s) a may = stays (moved x (BeginsResponse s)) (was (Ended s) a.there)
     by_move (Replies s) a may = stays (moved x (Replies s)) (was (Replying s) a.there)
     by_move (Takes s) a may = stays (moved x (Takes s)) (was (Replied s) a.there)
-    by_move (Answers s) a may = stays (moved x (Answers s)) (answered_past p.ring.pushed p.ring.fetched k 0 s (is_read x.job && is_okay s))
-    by_move (Tells index words) a may = stays (moved x (Tells index words)) (answered_past p.ring.pushed p.ring.fetched k (index + 1) status.Okay (nat_lt (index + 1) (places_of x.job)))
+    by_move (Answers s) a may = stays (moved x (Answers s)) (answered_past p.ring.pushed p.ring.fetched k 0 s (is_read x.submission && is_okay s))
+    by_move (Tells index words) a may = stays (moved x (Tells index words)) (answered_past p.ring.pushed p.ring.fetched k (index + 1) status.Okay (nat_lt (index + 1) (places_of x.submission)))
 
 -- a submission
-pub submit_ordered : (requests : List PipelineRequest) (pushed : List ℕ) (fetched : ℕ) (job : Job) → IsOrdered requests pushed fetched → IsOrdered (requests ++ submitted job ∷ []) pushed fetched
-submit_ordered requests pushed fetched job o =
-    let long = length_push requests (submitted job) in
+pub submit_ordered : (requests : List PipelineRequest) (pushed : List ℕ) (fetched : ℕ) (submission : Submission) → IsOrdered requests pushed fetched → IsOrdered (requests ++ submitted submission ∷ []) pushed fetched
+submit_ordered requests pushed fetched submission o =
+    let long = length_push requests (submitted submission) in
     record {
-      each = each_more (IsPlaced pushed fetched) (IsPlaced pushed fetched) requests (submitted job) (λ i j e. o.below i j e) (λ j y e h. h) o.each;
+      each = each_more (IsPlaced pushed fetched) (IsPlaced pushed fetched) requests (submitted submission) (λ i j e. o.below i j e) (λ j y e h. h) o.each;
       ascending = o.ascending;
       below = λ i k e. (let lt = o.below i k e in omega arith);
       within = o.within;

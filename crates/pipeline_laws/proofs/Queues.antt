@@ -2,7 +2,7 @@
 use Rattle.std.proofs.Common.{◌≡◌, ◌*◌, ◌^◌, ◌≤◌, not, List, [], ◌∷◌, ◌++◌, map, refl, ap, arith}
 use Rattle.std.specs.Prelude.{None}
 use Rattle.blk_base.specs.Options.{Options}
-use Rattle.blk_base.specs.declared.config.Job.{Job}
+use Rattle.blk_base.specs.declared.config.Submission.{Submission}
 use Rattle.plain_disk.specs.declared.request.DiskRequest.{DiskRequest}
 use Rattle.plain_disk.specs.Request as plain
 use Rattle.pipeline_laws.specs.Station.{Station, Finished, PipelineRequest, submitted, is_finished, asked, stage_at}
@@ -22,11 +22,11 @@ record IsQueued (p : Pipeline) : Type 0 where
   few : unfinished_count p.requests ≤ 32 * 2 ^ p.options.order
 
 -- an accepted request finds room
-submit_few : (p : Pipeline) (job : Job) → refusal_now p job ≡ None → unfinished_count (p.requests ++ submitted job ∷ []) ≤ 32 * 2 ^ p.options.order
-submit_few p job accepted =
-    let few = accepted_few (sight_of p) p.options (map asked p.requests) job accepted in
+submit_few : (p : Pipeline) (submission : Submission) → refusal_now p submission ≡ None → unfinished_count (p.requests ++ submitted submission ∷ []) ≤ 32 * 2 ^ p.options.order
+submit_few p submission accepted =
+    let few = accepted_few (sight_of p) p.options (map asked p.requests) submission accepted in
     let same = count_map (λ (r : DiskRequest). not (plain.is_finished r.stage)) (λ (x : PipelineRequest). not (is_finished x.station)) asked p.requests (λ x. ap not (finished x.station)) in
-    let more = count_push (λ (x : PipelineRequest). not (is_finished x.station)) p.requests (submitted job) in
+    let more = count_push (λ (x : PipelineRequest). not (is_finished x.station)) p.requests (submitted submission) in
     omega arith
   where
     finished : (station : Station) → plain.is_finished (stage_at station) ≡ is_finished station
@@ -34,11 +34,11 @@ submit_few p job accepted =
     finished station = refl
 
 step_queued : (p : Pipeline) (s : Step) → IsAllowed p s → IsQueued p → IsQueued (next p s)
-step_queued p (Submits job) may q = record {
-  ordered = submit_ordered p.requests p.ring.pushed p.ring.fetched job q.ordered;
-  counted = submit_counted p.requests p.ring job q.counted;
-  named = submit_named p.requests p.ring (submitted job) q.named;
-  few = submit_few p job may;
+step_queued p (Submits submission) may q = record {
+  ordered = submit_ordered p.requests p.ring.pushed p.ring.fetched submission q.ordered;
+  counted = submit_counted p.requests p.ring submission q.counted;
+  named = submit_named p.requests p.ring (submitted submission) q.named;
+  few = submit_few p submission may;
 }
 step_queued p (Moves k x move) may q = record {
   ordered = move_ordered p k x move may.0 may.1 q.ordered;

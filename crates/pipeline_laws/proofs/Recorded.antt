@@ -8,7 +8,7 @@ use Rattle.schedule_text.specs.declared.line.Detail.TheVariants as detail
 use Rattle.schedule_text.specs.declared.line.Line.{Line}
 use Rattle.schedule_text.specs.declared.line.Line.TheVariants as lines
 use Rattle.schedule_text.specs.Recorder.{recorded}
-use Rattle.blk_base.specs.declared.config.Job.{Job}
+use Rattle.blk_base.specs.declared.config.Submission.{Submission}
 use Rattle.pipeline_laws.specs.Pipeline.{Pipeline, Step, Moves, Shows, pipeline_of, next, step_lines, lines_of}
 use Rattle.pipeline_laws.specs.Allowed.{is_aside, IsAllowed, AreAllowed}
 use Rattle.pipeline_laws.specs.Disk.{DiskGoes, DiskRuns}
@@ -79,7 +79,7 @@ more_kept word s steps p content between later may goes rest = by_test (is_kept 
       allowed = (may, rest.allowed);
       runs = (between, goes, rest.runs);
       report = ap (λ (ls : List Line). step_lines p s ++ ls) rest.report ∙ (ap (λ (ls : List Line). ls ++ flat_map (recorded word) (lines_of steps (next p s))) (sym (kept_lines word s p may e)) ∙ sym split);
-      submitted = submitted_more s (kept_of word steps) ∙ (ap (λ (js : List Job). submitted_of (s ∷ []) ++ js) rest.submitted ∙ sym (submitted_more s steps));
+      submitted = submitted_more s (kept_of word steps) ∙ (ap (λ (js : List Submission). submitted_of (s ∷ []) ++ js) rest.submitted ∙ sym (submitted_more s steps));
     }
 
     without : is_kept word s ≡ false → AreKept word (s ∷ steps) (kept_of word steps) p content later
@@ -89,7 +89,7 @@ more_kept word s steps p content between later may goes rest = by_test (is_kept 
           allowed = subst (AreAllowed (kept_of word steps)) none.0 rest.allowed;
           runs = subst (λ (c : List (List ℕ)). DiskRuns (kept_of word steps) c later) (dropped_disk word s content between e goes) rest.runs;
           report = ap (lines_of (kept_of word steps)) (sym none.0) ∙ (rest.report ∙ (ap (λ (ls : List Line). ls ++ flat_map (recorded word) (lines_of steps (next p s))) (sym none.1) ∙ sym split));
-          submitted = rest.submitted ∙ (ap (λ (js : List Job). js ++ submitted_of steps) (sym none.2) ∙ sym (submitted_more s steps));
+          submitted = rest.submitted ∙ (ap (λ (js : List Submission). js ++ submitted_of steps) (sym none.2) ∙ sym (submitted_more s steps));
         }
 
     by_test : (b : Bool) → is_kept word s ≡ b → AreKept word (s ∷ steps) (kept_of word (s ∷ steps)) p content later

@@ -4,7 +4,7 @@ use Rattle.std.specs.Prelude.{Some, slice_get}
 use Rattle.std.proofs.lemmas.Option.{none-some, same_Some}
 use Rattle.blk_base.specs.declared.operation.Status.{Status}
 use Rattle.blk_base.specs.declared.operation.Status.TheVariants.{Okay}
-use Rattle.schedule_text.specs.declared.line.Refusal.{Refusal}
+use Rattle.blk_base.specs.declared.refusal.Refusal.{Refusal}
 use Rattle.plain_disk.specs.Request.{is_barrier}
 use Rattle.pipeline_laws.specs.Station.{Waiting, Working, Taking, Finished, PipelineRequest}
 use Rattle.pipeline_laws.specs.Move.{Pushes, BeginsFetch, Fills, Ends, Answers, station_before}
@@ -20,11 +20,11 @@ barrier_waits x may = by_index may.1.2.index may.1.2.entry may.1.2.clear
     is = same_Some _ x may.0.here
 
     by_index : (index : ℕ) → slice_get {X = ℕ} (0 ∷ 1 ∷ []) index ≡ Some 1
-        → ((i j : ℕ) (y : PipelineRequest) → i < index → slice_get {X = ℕ} (0 ∷ 1 ∷ []) i ≡ Some j → slice_get (at write (Working 0) ∷ at barrier (Working 0) ∷ []) j ≡ Some y → is_in_way (is_barrier x.job) y ≡ false) → ⊥
+        → ((i j : ℕ) (y : PipelineRequest) → i < index → slice_get {X = ℕ} (0 ∷ 1 ∷ []) i ≡ Some j → slice_get (at write (Working 0) ∷ at barrier (Working 0) ∷ []) j ≡ Some y → is_in_way (is_barrier x.submission) y ≡ false) → ⊥
     by_index zero entry clear = absurd (cc)
     by_index (suc zero) entry clear =
-        let way : is_in_way (is_barrier x.job) (at write (Working 0)) ≡ false = clear 0 0 (at write (Working 0)) (omega arith) refl refl in
-        let here : is_in_way true (at write (Working 0)) ≡ false = subst (λ (y : PipelineRequest). is_in_way (is_barrier y.job) (at write (Working 0)) ≡ false) (sym is) way in
+        let way : is_in_way (is_barrier x.submission) (at write (Working 0)) ≡ false = clear 0 0 (at write (Working 0)) (omega arith) refl refl in
+        let here : is_in_way true (at write (Working 0)) ≡ false = subst (λ (y : PipelineRequest). is_in_way (is_barrier y.submission) (at write (Working 0)) ≡ false) (sym is) way in
         absurd (cc)
     by_index (suc (suc index)) entry clear = none-some 1 entry
 
@@ -40,11 +40,11 @@ fetch_waits x may =
     let one : ◌≡◌ {A = ℕ} 0 1 = same_Some 0 1 may.1 in
     absurd (omega arith)
 
--- a job that ends `ok` with a sector left
+-- a submission that ends `ok` with a sector left
 pub end_waits : (x : PipelineRequest) → IsAllowed (after_steps half_done (pipeline_of two_sectors)) (Moves 0 x (Ends Okay)) → ⊥
 end_waits x may =
     let is : at long_write (Working 1) ≡ x = same_Some _ x may.0.here in
-    let there : Working 1 ≡ Working 2 = subst (λ (y : PipelineRequest). y.station ≡ station_before y.job (Ends Okay)) (sym is) may.0.there in
+    let there : Working 1 ≡ Working 2 = subst (λ (y : PipelineRequest). y.station ≡ station_before y.submission (Ends Okay)) (sym is) may.0.there in
     absurd (cc)
 
 -- a second answer
@@ -66,8 +66,8 @@ close_waits may =
     absurd (cc)
 
 -- a refusal that no rule gives, and one that a rule does
-pub refused_wrongly : (refusal : Refusal) → IsAllowed (after_steps (Connects ∷ []) (pipeline_of two_sectors)) (Refuses write.job refusal) → ⊥
+pub refused_wrongly : (refusal : Refusal) → IsAllowed (after_steps (Connects ∷ []) (pipeline_of two_sectors)) (Refuses write.submission refusal) → ⊥
 refused_wrongly refusal may = none-some refusal may
 
-pub accepted_wrongly : IsAllowed (after_steps (Connects ∷ []) (pipeline_of two_sectors)) (Submits past_end.job) → ⊥
+pub accepted_wrongly : IsAllowed (after_steps (Connects ∷ []) (pipeline_of two_sectors)) (Submits past_end.submission) → ⊥
 accepted_wrongly may = none-some _ (sym may)

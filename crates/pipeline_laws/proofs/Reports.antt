@@ -21,8 +21,8 @@ use Rattle.pipeline_laws.proofs.States.{states_hold, unbroken}
 
 -- the options stay
 next_options : (p : Pipeline) (s : Step) → (next p s).options ≡ p.options
-next_options p (Submits job) = refl
-next_options p (Refuses job refusal) = refl
+next_options p (Submits submission) = refl
+next_options p (Refuses submission refusal) = refl
 next_options p (Moves k x move) = refl
 next_options p s = refl
 

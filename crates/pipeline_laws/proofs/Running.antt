@@ -77,8 +77,8 @@ step_seen p (Moves k x move) may = elim (move_shows k move) [
   | inr one ↦ ap (fold seen (sight_of p)) one.1 ∙ of_request_unseen (sight_of p) one.0 one.2
 ]
 step_seen p (Shows line) may = aside_unseen (sight_of p) line may
-step_seen p (Submits job) may = refl
-step_seen p (Refuses job refusal) may = refl
+step_seen p (Submits submission) may = refl
+step_seen p (Refuses submission refusal) may = refl
 step_seen p Connects may = refl
 step_seen p StartsToClose may = refl
 step_seen p Closes may = refl
@@ -98,8 +98,8 @@ step_closed p (Moves k x move) may = elim (move_shows k move) [
 ]
 step_closed p (Shows line) may = or_same p.front.closed _ p.front.closed (or_same (is_closed line) false false refl (aside_unclosed line may)) refl
 step_closed p Closes may = rw may.1 refl
-step_closed p (Submits job) may = or_same p.front.closed false p.front.closed refl refl
-step_closed p (Refuses job refusal) may = or_same p.front.closed false p.front.closed refl refl
+step_closed p (Submits submission) may = or_same p.front.closed false p.front.closed refl refl
+step_closed p (Refuses submission refusal) may = or_same p.front.closed false p.front.closed refl refl
 step_closed p Connects may = or_same p.front.closed false p.front.closed refl refl
 step_closed p StartsToClose may = or_same p.front.closed false p.front.closed refl refl
 step_closed p (Leaves why) may = or_same p.front.closed false p.front.closed refl refl

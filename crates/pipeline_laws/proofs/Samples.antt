@@ -26,7 +26,7 @@ barrier_allowed =
     ends : AreAllowed barrier_ends (after_steps barrier_works (after_steps barrier_begins (pipeline_of two_sectors)))
     ends = ((here _ 1 _ refl, tt), ((here _ 1 _ refl, tt), ((here _ 1 _ refl, tt), ((here _ 0 _ refl, tt), ((here _ 0 _ refl, tt), ((here _ 0 _ refl, tt), ((here _ 1 _ refl, refl), ((here _ 1 _ refl, tt), ((here _ 0 _ refl, refl), ((here _ 0 _ refl, tt), (two_finished _ (at write (Finished Okay)) (at barrier (Finished Okay)) refl refl refl, tt)))))))))))
 
-pub barrier_disk : (a b : List ℕ) → DiskRuns barrier_steps (a ∷ b ∷ []) (filling barrier.job 0 ∷ b ∷ [])
+pub barrier_disk : (a b : List ℕ) → DiskRuns barrier_steps (a ∷ b ∷ []) (filling barrier.submission 0 ∷ b ∷ [])
 barrier_disk a b = (_, refl, (_, refl, (_, refl, (_, refl, (_, refl, (_, refl, (_, refl, (_, refl, (_, refl, (_, refl, (_, refl, (_, refl, (_, refl, (_, refl, (_, refl, (_, refl, (_, refl, (_, refl, (_, refl, (_, refl, (_, refl, (_, refl, (_, refl, (_, refl, (_, refl, (_, refl, (_, refl, (_, refl, (_, refl, (_, refl, (_, refl, refl)))))))))))))))))))))))))))))))
 
 pub order_allowed : AreAllowed order_steps (pipeline_of two_sectors)
@@ -38,7 +38,7 @@ order_allowed = allowed_append order_begins order_ends (pipeline_of two_sectors)
     ends : AreAllowed order_ends (after_steps order_begins (pipeline_of two_sectors))
     ends = ((here _ 1 _ refl, (refl, omega arith, clear_after _ 1 _ 0 (at write (Working 0)) refl refl refl refl)), ((here _ 1 _ refl, tt), ((here _ 1 _ refl, tt), ((here _ 1 _ refl, tt), ((here _ 1 _ refl, refl), ((here _ 1 _ refl, tt), ((here _ 0 _ refl, (refl, omega arith, clear _ 0 _ refl)), ((here _ 0 _ refl, tt), ((here _ 0 _ refl, tt), ((here _ 0 _ refl, tt), ((here _ 0 _ refl, refl), ((here _ 0 _ refl, tt), (two_finished _ (at write (Finished Okay)) (at other_write (Finished Okay)) refl refl refl, tt)))))))))))))
 
-pub order_disk : (a b : List ℕ) → DiskRuns order_steps (a ∷ b ∷ []) (filling write.job 0 ∷ filling other_write.job 0 ∷ [])
+pub order_disk : (a b : List ℕ) → DiskRuns order_steps (a ∷ b ∷ []) (filling write.submission 0 ∷ filling other_write.submission 0 ∷ [])
 order_disk a b = (_, refl, (_, refl, (_, refl, (_, refl, (_, refl, (_, refl, (_, refl, (_, refl, (_, refl, (_, refl, (_, refl, (_, refl, (_, refl, (_, refl, (_, refl, (_, refl, (_, refl, (_, refl, (_, refl, (_, refl, (_, refl, (_, refl, (_, refl, (_, refl, refl))))))))))))))))))))))))
 
 pub read_allowed : (words : List ℕ) → AreAllowed (read_steps words) (pipeline_of two_sectors)
@@ -60,13 +60,13 @@ fault_allowed = ((refl, refl), (refl, ((here _ 0 _ refl, tt), ((here _ 0 _ refl,
     over p all = one_finished p (at long_write (Finished Error)) all refl
 
 -- nobody knows what the second sector holds then
-pub fault_disk : (a b c : List ℕ) → DiskRuns fault_steps (a ∷ b ∷ []) (filling long_write.job 0 ∷ c ∷ [])
+pub fault_disk : (a b c : List ℕ) → DiskRuns fault_steps (a ∷ b ∷ []) (filling long_write.submission 0 ∷ c ∷ [])
 fault_disk a b c = (_, refl, (_, refl, (_, refl, (_, refl, (_, refl, (_, refl, (_, refl, (_, lost, (_, refl, (_, refl, (_, refl, (_, refl, (_, refl, (_, refl, (_, refl, (_, refl, (_, refl, refl)))))))))))))))))
   where
-    lost : SameBut 1 1 (Some (filling long_write.job 0 ∷ b ∷ [])) (Some (filling long_write.job 0 ∷ c ∷ []))
+    lost : SameBut 1 1 (Some (filling long_write.submission 0 ∷ b ∷ [])) (Some (filling long_write.submission 0 ∷ c ∷ []))
     lost = (refl, other)
       where
-        other : (i : ℕ) → (i < 1) ⊎ (1 + 1 ≤ i) → slice_get (filling long_write.job 0 ∷ c ∷ []) i ≡ slice_get (filling long_write.job 0 ∷ b ∷ []) i
+        other : (i : ℕ) → (i < 1) ⊎ (1 + 1 ≤ i) → slice_get (filling long_write.submission 0 ∷ c ∷ []) i ≡ slice_get (filling long_write.submission 0 ∷ b ∷ []) i
         other zero far = refl
         other (suc zero) far = absurd (grind arith)
         other (suc (suc i)) far = refl

@@ -1,11 +1,11 @@
--- The moves of a job on the disk: a sector filled or read, a flush, a discard, a failure.
+-- The moves of a submission on the disk: a sector filled or read, a flush, a discard, a failure.
 use Rattle.std.proofs.Common.{◌≡◌, ◌≢◌, ℕ, ◌+◌, ◌<◌, Bool, true, false, not, ◌||◌, List, [], ◌∷◌, ◌++◌, length, map, refl, ap, sym, ◌∙◌, subst, arith, length-set}
 use Rattle.std.specs.Prelude.{Option, Some, None, slice_get, slice_set, nat_lt}
 use Rattle.std.proofs.lemmas.Cmp.{nat_list_eq_equiv}
 use Rattle.std.proofs.lemmas.Option.{same_Some, slice_get_within}
 use Rattle.std.proofs.lemmas.Bool.Decides.{nat_tests}
-use Rattle.blk_base.specs.declared.config.Job.{Job}
-use Rattle.blk_base.specs.declared.config.Job.TheVariants.{Read, Write, Barrier, Flush, Discard}
+use Rattle.blk_base.specs.declared.config.Submission.{Submission}
+use Rattle.blk_base.specs.declared.config.Submission.TheVariants.{Read, Write, Barrier, Flush, Discard}
 use Rattle.schedule_text.specs.declared.line.Line.{Line}
 use Rattle.schedule_text.specs.declared.line.Line.TheVariants as lines
 use Rattle.plain_disk.specs.declared.request.Place.{Place}
@@ -35,14 +35,14 @@ pub record Leads (p : Pipeline) (d : Disk) (report : List Line) (content : List 
 pub one_line : (d d' : Disk) (line : Line) → step d line ≡ Some d' → after (line ∷ []) d ≡ Some d'
 one_line d d' line e = rw e refl
 
--- a place of a job may be served
-may_serve_at : (done : List Place) (id n : ℕ) (job : Job) → IsDoneTo done id n → n < places_of job → may_serve done id (opened job) n ≡ true
-may_serve_at done id n job h more =
-    let within : nat_lt n (places_of job) ≡ true = grind (arith, nat_tests) in
+-- a place of a submission may be served
+may_serve_at : (done : List Place) (id n : ℕ) (submission : Submission) → IsDoneTo done id n → n < places_of submission → may_serve done id (opened submission) n ≡ true
+may_serve_at done id n submission h more =
+    let within : nat_lt n (places_of submission) ≡ true = grind (arith, nat_tests) in
     rw (within, h.rest n (omega arith)) refl
 
 job_done : (p : Pipeline) (d : Disk) (content : List (List ℕ)) (k n : ℕ) (x : PipelineRequest) → Matches p d content → IsAt p k x (Working n) → IsDoneTo d.done (k + 1) n
-job_done p d content k n x m at = subst (λ s. IsDone d.done (k + 1) (done_at x.job s)) at.there (m.each k x at.here).done
+job_done p d content k n x m at = subst (λ s. IsDone d.done (k + 1) (done_at x.submission s)) at.there (m.each k x at.here).done
 
 unread_long : (b : Bool) (n : ℕ) (words : List (List ℕ)) → b ≡ false → IsLong (Working n) b words
 unread_long true n words e = absurd (cc)
@@ -56,49 +56,49 @@ served_later p d content k n x y m here id above =
     let apart : id ≢ k + 1 = λ e. absurd (omega (arith, e)) in
     done_other d.done id (k + 1) 0 n apart (m.later id (omega arith))
 
--- a place of a job that reads nothing was served
+-- a place of a submission that reads nothing was served
 abbrev worked : PipelineRequest → ℕ → PipelineRequest
-worked x n = record { job = x.job; station = Working n; words = x.words }
+worked x n = record { submission = x.submission; station = Working n; words = x.words }
 
-served_each : (p : Pipeline) (d : Disk) (content : List (List ℕ)) (k n : ℕ) (x : PipelineRequest) → Matches p d content → IsAt p k x (Working n) → is_read x.job ≡ false
+served_each : (p : Pipeline) (d : Disk) (content : List (List ℕ)) (k n : ℕ) (x : PipelineRequest) → Matches p d content → IsAt p k x (Working n) → is_read x.submission ≡ false
     → Each (IsTold (d.done ++ place (k + 1) n ∷ []) d.noted) (slice_set p.requests k (worked x (n + 1)))
 served_each p d content k n x m at unread =
     each_set (IsTold d.done d.noted) (IsTold (d.done ++ place (k + 1) n ∷ []) d.noted) p.requests k (worked x (n + 1))
-    (record { done = done_more d.done (k + 1) n (job_done p d content k n x m at); noted = (m.each k x at.here).noted; long = unread_long (is_read x.job) (n + 1) x.words unread; served = refl })
+    (record { done = done_more d.done (k + 1) n (job_done p d content k n x m at); noted = (m.each k x at.here).noted; long = unread_long (is_read x.submission) (n + 1) x.words unread; served = refl })
     (λ j y other e h. told_elsewhere d.done d.noted j k n y other h) m.each
 
-same_asked : (p : Pipeline) (d : Disk) (content : List (List ℕ)) (k n m : ℕ) (x : PipelineRequest) (words : List (List ℕ)) → Matches p d content → IsAt p k x (Working n) → d.requests ≡ map asked (slice_set p.requests k (record { job = x.job; station = Working m; words = words }))
-same_asked p d content k n m x words h at = h.requests ∙ sym (set_same asked p.requests k x (record { job = x.job; station = Working m; words = words }) at.here (ap (asked_at x.job) (sym at.there)))
+same_asked : (p : Pipeline) (d : Disk) (content : List (List ℕ)) (k n m : ℕ) (x : PipelineRequest) (words : List (List ℕ)) → Matches p d content → IsAt p k x (Working n) → d.requests ≡ map asked (slice_set p.requests k (record { submission = x.submission; station = Working m; words = words }))
+same_asked p d content k n m x words h at = h.requests ∙ sym (set_same asked p.requests k x (record { submission = x.submission; station = Working m; words = words }) at.here (ap (asked_at x.submission) (sym at.there)))
 
-pub fills : (p : Pipeline) (d : Disk) (content later : List (List ℕ)) (k : ℕ) (x : PipelineRequest) (n : ℕ) → IsAt p k x (Working n) → is_write x.job ≡ true → n < places_of x.job → IsClear p k x
-    → Changes (sector_of x.job + n) 1 (Some (filling x.job n)) content later → Matches p d content → IsOrdered p.requests p.ring.pushed p.ring.fetched → Leads (next p (Moves k x (Fills n))) d (move_lines k (Fills n)) later
-fills p d content later k x n at job more clear changes m o = record {
-  disk = served d (place (k + 1) n) (one_sector x.job n (Some (filling x.job n)));
+pub fills : (p : Pipeline) (d : Disk) (content later : List (List ℕ)) (k : ℕ) (x : PipelineRequest) (n : ℕ) → IsAt p k x (Working n) → is_write x.submission ≡ true → n < places_of x.submission → IsClear p k x
+    → Changes (sector_of x.submission + n) 1 (Some (filling x.submission n)) content later → Matches p d content → IsOrdered p.requests p.ring.pushed p.ring.fetched → Leads (next p (Moves k x (Fills n))) d (move_lines k (Fills n)) later
+fills p d content later k x n at submission more clear changes m o = record {
+  disk = served d (place (k + 1) n) (one_sector x.submission n (Some (filling x.submission n)));
   run = one_line d _ (lines.Effect (k + 1) n) (rw (
     asked_here p d content k x (Working n) m at,
-    job,
-    may_serve_at d.done (k + 1) n x.job (job_done p d content k n x m at) more,
-    in_order p d content k n x (opened x.job) m o at refl clear,
+    submission,
+    may_serve_at d.done (k + 1) n x.submission (job_done p d content k n x m at) more,
+    in_order p d content k n x (opened x.submission) m o at refl clear,
   ) refl);
   matches = record {
     requests = same_asked p d content k n (n + 1) x x.words m at;
-    each = served_each p d content k n x m at (write_no_read x.job job);
+    each = served_each p d content k n x m at (write_no_read x.submission submission);
     later = served_later p d content k n x _ m at.here;
-    known = known_more d.first d.written (one_sector x.job n (Some (filling x.job n))) content later changes m.known;
+    known = known_more d.first d.written (one_sector x.submission n (Some (filling x.submission n))) content later changes m.known;
   };
 }
 
-pub flushes : (p : Pipeline) (d : Disk) (content : List (List ℕ)) (k : ℕ) (x : PipelineRequest) → IsAt p k x (Working 0) → is_flush x.job ≡ true → Matches p d content → Leads (next p (Moves k x Flushes)) d (move_lines k Flushes) content
-flushes p d content k x at job m = record {
+pub flushes : (p : Pipeline) (d : Disk) (content : List (List ℕ)) (k : ℕ) (x : PipelineRequest) → IsAt p k x (Working 0) → is_flush x.submission ≡ true → Matches p d content → Leads (next p (Moves k x Flushes)) d (move_lines k Flushes) content
+flushes p d content k x at submission m = record {
   disk = record d { done = d.done ++ place (k + 1) 0 ∷ [] };
   run = one_line d _ (lines.Flushed (k + 1)) (rw (
     asked_here p d content k x (Working 0) m at,
-    job,
-    may_serve_at d.done (k + 1) 0 x.job (job_done p d content k 0 x m at) (flush_place x.job job),
+    submission,
+    may_serve_at d.done (k + 1) 0 x.submission (job_done p d content k 0 x m at) (flush_place x.submission submission),
   ) refl);
   matches = record {
     requests = same_asked p d content k 0 1 x x.words m at;
-    each = served_each p d content k 0 x m at (flush_no_read x.job job);
+    each = served_each p d content k 0 x m at (flush_no_read x.submission submission);
     later = served_later p d content k 0 x _ m at.here;
     known = m.known;
   };
@@ -109,26 +109,26 @@ from_start sector count words content later changes =
     let e : sector + 0 ≡ sector = omega arith in
     rw e changes
 
-pub trims : (p : Pipeline) (d : Disk) (content later : List (List ℕ)) (k : ℕ) (x : PipelineRequest) → IsAt p k x (Working 0) → is_discard x.job ≡ true → IsClear p k x
-    → Changes (sector_of x.job) (count_of x.job) (Some (filling x.job 0)) content later → Matches p d content → IsOrdered p.requests p.ring.pushed p.ring.fetched → Leads (next p (Moves k x Trims)) d (move_lines k Trims) later
-trims p d content later k x at job clear changes m o = record {
-  disk = served d (place (k + 1) 0) (all_sectors x.job (Some (filling x.job 0)));
+pub trims : (p : Pipeline) (d : Disk) (content later : List (List ℕ)) (k : ℕ) (x : PipelineRequest) → IsAt p k x (Working 0) → is_discard x.submission ≡ true → IsClear p k x
+    → Changes (sector_of x.submission) (count_of x.submission) (Some (filling x.submission 0)) content later → Matches p d content → IsOrdered p.requests p.ring.pushed p.ring.fetched → Leads (next p (Moves k x Trims)) d (move_lines k Trims) later
+trims p d content later k x at submission clear changes m o = record {
+  disk = served d (place (k + 1) 0) (all_sectors x.submission (Some (filling x.submission 0)));
   run = one_line d _ (lines.Trimmed (k + 1)) (rw (
     asked_here p d content k x (Working 0) m at,
-    job,
-    may_serve_at d.done (k + 1) 0 x.job (job_done p d content k 0 x m at) (discard_place x.job job),
-    in_order p d content k 0 x (opened x.job) m o at refl clear,
+    submission,
+    may_serve_at d.done (k + 1) 0 x.submission (job_done p d content k 0 x m at) (discard_place x.submission submission),
+    in_order p d content k 0 x (opened x.submission) m o at refl clear,
   ) refl);
   matches = record {
     requests = same_asked p d content k 0 1 x x.words m at;
-    each = served_each p d content k 0 x m at (discard_no_read x.job job);
+    each = served_each p d content k 0 x m at (discard_no_read x.submission submission);
     later = served_later p d content k 0 x _ m at.here;
-    known = known_more d.first d.written (all_sectors x.job (Some (filling x.job 0))) content later (from_start (sector_of x.job) (count_of x.job) (Some (filling x.job 0)) content later changes) m.known;
+    known = known_more d.first d.written (all_sectors x.submission (Some (filling x.submission 0))) content later (from_start (sector_of x.submission) (count_of x.submission) (Some (filling x.submission 0)) content later changes) m.known;
   };
 }
 
 -- a failure: what it leaves nobody knows
-lost_known : (first : List (List ℕ)) (written : List Written) (job : Job) (n : ℕ) (content later : List (List ℕ)) → Changes (lost_sector job n) (lost_count job) None content later → IsKnown first written content → IsKnown first (lost_of written job n) later
+lost_known : (first : List (List ℕ)) (written : List Written) (submission : Submission) (n : ℕ) (content later : List (List ℕ)) → Changes (lost_sector submission n) (lost_count submission) None content later → IsKnown first written content → IsKnown first (lost_of written submission n) later
 lost_known first written (Read sector count) n content later changes known = known_same first written sector content later changes known
 lost_known first written (Write sector count tag) n content later changes known = known_more first written (one_sector (Write sector count tag) n None) content later changes known
 lost_known first written (Barrier sector count tag) n content later changes known = known_more first written (one_sector (Barrier sector count tag) n None) content later changes known
@@ -139,20 +139,20 @@ fault_order : (ordered clear : Bool) → (ordered ≡ true → clear ≡ true) �
 fault_order true clear h = h refl
 fault_order false clear h = refl
 
-pub fails : (p : Pipeline) (d : Disk) (content later : List (List ℕ)) (k : ℕ) (x : PipelineRequest) (n : ℕ) → IsAt p k x (Working n) → n < places_of x.job → (is_ordered x.job ≡ true → IsClear p k x)
-    → Changes (lost_sector x.job n) (lost_count x.job) None content later → Matches p d content → IsOrdered p.requests p.ring.pushed p.ring.fetched → Leads (next p (Moves k x (Fails n))) d (move_lines k (Fails n)) later
+pub fails : (p : Pipeline) (d : Disk) (content later : List (List ℕ)) (k : ℕ) (x : PipelineRequest) (n : ℕ) → IsAt p k x (Working n) → n < places_of x.submission → (is_ordered x.submission ≡ true → IsClear p k x)
+    → Changes (lost_sector x.submission n) (lost_count x.submission) None content later → Matches p d content → IsOrdered p.requests p.ring.pushed p.ring.fetched → Leads (next p (Moves k x (Fails n))) d (move_lines k (Fails n)) later
 fails p d content later k x n at more clear changes m o = record {
-  disk = record d { requests = with_request d.requests (k + 1) (asked_at x.job Failed); written = lost_of d.written x.job n };
+  disk = record d { requests = with_request d.requests (k + 1) (asked_at x.submission Failed); written = lost_of d.written x.submission n };
   run = one_line d _ (lines.Fault (k + 1) n) (rw (
     asked_here p d content k x (Working n) m at,
-    may_serve_at d.done (k + 1) n x.job (job_done p d content k n x m at) more,
-    fault_order (is_ordered x.job) (is_in_order d (k + 1) (opened x.job)) (λ e. in_order p d content k n x (opened x.job) m o at refl (clear e)),
+    may_serve_at d.done (k + 1) n x.submission (job_done p d content k n x m at) more,
+    fault_order (is_ordered x.submission) (is_in_order d (k + 1) (opened x.submission)) (λ e. in_order p d content k n x (opened x.submission) m o at refl (clear e)),
   ) refl);
   matches = record {
     requests = set_asked d.requests p.requests k (moved x (Fails n)) m.requests;
     each = each_kept (IsTold d.done d.noted) p.requests k (moved x (Fails n)) (record { done = tt; noted = (m.each k x at.here).noted; long = tt; served = refl }) m.each;
     later = λ id above. m.later id (rw length-set at above);
-    known = lost_known d.first d.written x.job n content later changes m.known;
+    known = lost_known d.first d.written x.submission n content later changes m.known;
   };
 }
 
@@ -176,18 +176,18 @@ holds_words : (known : Option (List ℕ)) (words : List ℕ) → ((w : List ℕ)
 holds_words None words same = refl
 holds_words (Some w) words same = rw (same w refl) (nat_list_eq_equiv.refl w)
 
-pub reads : (p : Pipeline) (d : Disk) (content : List (List ℕ)) (k : ℕ) (x : PipelineRequest) (n : ℕ) (words : List ℕ) → IsAt p k x (Working n) → is_read x.job ≡ true → n < places_of x.job
-    → slice_get content (sector_of x.job + n) ≡ Some words → Matches p d content → Leads (next p (Moves k x (Reads n words))) d (move_lines k (Reads n words)) content
-reads p d content k x n words at job more here m =
+pub reads : (p : Pipeline) (d : Disk) (content : List (List ℕ)) (k : ℕ) (x : PipelineRequest) (n : ℕ) (words : List ℕ) → IsAt p k x (Working n) → is_read x.submission ≡ true → n < places_of x.submission
+    → slice_get content (sector_of x.submission + n) ≡ Some words → Matches p d content → Leads (next p (Moves k x (Reads n words))) d (move_lines k (Reads n words)) content
+reads p d content k x n words at submission more here m =
     let was : IsTold d.done d.noted k x = m.each k x at.here in
-    let long : length x.words ≡ n = job_long (is_read x.job) n x.words job (subst (λ s. IsLong s (is_read x.job) x.words) at.there was.long) in
-    let holds : may_hold (place_words d.first d.written x.job n) words ≡ true = holds_words (place_words d.first d.written x.job n) words (λ w e. same_Some words w (sym here ∙ m.known (sector_of x.job + n) w e)) in
+    let long : length x.words ≡ n = job_long (is_read x.submission) n x.words submission (subst (λ s. IsLong s (is_read x.submission) x.words) at.there was.long) in
+    let holds : may_hold (place_words d.first d.written x.submission n) words ≡ true = holds_words (place_words d.first d.written x.submission n) words (λ w e. same_Some words w (sym here ∙ m.known (sector_of x.submission + n) w e)) in
     record {
-      disk = record (served d (place (k + 1) n) (one_sector x.job n (Some words))) { noted = d.noted ++ note (k + 1) n words ∷ [] };
+      disk = record (served d (place (k + 1) n) (one_sector x.submission n (Some words))) { noted = d.noted ++ note (k + 1) n words ∷ [] };
       run = one_line d _ (lines.EffectRead (k + 1) n words) (rw (
         asked_here p d content k x (Working n) m at,
-        job,
-        may_serve_at d.done (k + 1) n x.job (job_done p d content k n x m at) more,
+        submission,
+        may_serve_at d.done (k + 1) n x.submission (job_done p d content k n x m at) more,
         holds,
       ) refl);
       matches = record {
@@ -196,11 +196,11 @@ reads p d content k x n words at job more here m =
             (record {
               done = done_more d.done (k + 1) n (job_done p d content k n x m at);
               noted = noted_here d.noted (k + 1) n words x.words long was.noted;
-              long = long_more (is_read x.job) n (x.words ++ words ∷ []) (length_one x.words words n long);
+              long = long_more (is_read x.submission) n (x.words ++ words ∷ []) (length_one x.words words n long);
               served = refl;
             })
             (λ j y other e h. read_elsewhere d.done d.noted j k n words y other h) m.each;
         later = served_later p d content k n x _ m at.here;
-        known = known_read d.first d.written (one_sector x.job n (Some words)) content words refl refl here m.known;
+        known = known_read d.first d.written (one_sector x.submission n (Some words)) content words refl refl here m.known;
       };
     }

@@ -47,8 +47,8 @@ served before p content over so = record {
 }
 
 pub states_hold : Holds IsStateAt
-states_hold before p content (Submits job) may so obeys = obeys_more IsStateAt before _ obeys tt
-states_hold before p content (Refuses job refusal) may so obeys = obeys_more IsStateAt before _ obeys tt
+states_hold before p content (Submits submission) may so obeys = obeys_more IsStateAt before _ obeys tt
+states_hold before p content (Refuses submission refusal) may so obeys = obeys_more IsStateAt before _ obeys tt
 states_hold before p content (Moves k x move) may so obeys = move_obeys IsStateAt before k move (λ line of. of_request_states before line of) obeys
 states_hold before p content Connects may so obeys = obeys_more IsStateAt before _ obeys (ap (λ (s : Sight). s.connected) so.shown ∙ may.0, so.closed ∙ may.1)
 states_hold before p content StartsToClose may so obeys = obeys_more IsStateAt before _ obeys (ap (λ (s : Sight). s.closing) so.shown ∙ may)

@@ -6,7 +6,7 @@ use Rattle.std.proofs.lemmas.List.{length_push, length-map}
 use Rattle.std.proofs.lemmas.Option.{none-some}
 use Rattle.std.proofs.lemmas.Bool.Decides.{nat_tests}
 use Rattle.blk_base.specs.Options.{Options}
-use Rattle.blk_base.specs.declared.config.Job.{Job}
+use Rattle.blk_base.specs.declared.config.Submission.{Submission}
 use Rattle.schedule_text.specs.declared.line.Line.{Line}
 use Rattle.schedule_text.specs.declared.line.Line.TheVariants as lines
 use Rattle.plain_disk.specs.declared.request.DiskRequest.{DiskRequest}
@@ -37,28 +37,28 @@ pub record Stands (p : Pipeline) (d : Disk) (content : List (List ℕ)) : Type 0
   pub sized : length content ≡ p.options.sectors
 
 -- a move
-move_leads : (p : Pipeline) (d : Disk) (content later : List (List ℕ)) (k : ℕ) (x : PipelineRequest) (move : Move) → IsAt p k x (station_before x.job move) → May p k x move → DiskDoes x.job move content later → Stands p d content
+move_leads : (p : Pipeline) (d : Disk) (content later : List (List ℕ)) (k : ℕ) (x : PipelineRequest) (move : Move) → IsAt p k x (station_before x.submission move) → May p k x move → DiskDoes x.submission move content later → Stands p d content
     → Leads (next p (Moves k x move)) d (move_lines k move) later
 move_leads p d content later k x move at may does s = by_move move at may does
   where
-    on_disk : IsOnDisk (length content) x.job
-    on_disk = subst (λ (n : ℕ). IsOnDisk n x.job) (sym s.sized) (s.on_disk k x at.here)
+    on_disk : IsOnDisk (length content) x.submission
+    on_disk = subst (λ (n : ℕ). IsOnDisk n x.submission) (sym s.sized) (s.on_disk k x at.here)
 
     same : (m : Move) → Leads (next p (Moves k x m)) d (move_lines k m) content → later ≡ content → Leads (next p (Moves k x m)) d (move_lines k m) later
     same m leads e = subst (λ (c : List (List ℕ)). Leads (next p (Moves k x m)) d (move_lines k m) c) (sym e) leads
 
-    silent : (m : Move) → move_lines k m ≡ [] → May p k x m → IsAt p k x (station_before x.job m) → later ≡ content → Leads (next p (Moves k x m)) d (move_lines k m) later
+    silent : (m : Move) → move_lines k m ≡ [] → May p k x m → IsAt p k x (station_before x.submission m) → later ≡ content → Leads (next p (Moves k x m)) d (move_lines k m) later
     silent m none may a e = same m (goes_on p d content k x m none may a s.matches) e
 
-    by_move : (m : Move) → IsAt p k x (station_before x.job m) → May p k x m → DiskDoes x.job m content later → Leads (next p (Moves k x m)) d (move_lines k m) later
+    by_move : (m : Move) → IsAt p k x (station_before x.submission m) → May p k x m → DiskDoes x.submission m content later → Leads (next p (Moves k x m)) d (move_lines k m) later
     by_move BeginsEntry a may e = silent BeginsEntry refl may a e
     by_move Pushes a may e = silent Pushes refl may a e
     by_move BeginsFetch a may e = silent BeginsFetch refl may a e
     by_move Fetches a may e = silent Fetches refl may a e
-    by_move (Fills index) a may e = fills p d content later k x index a may.0 may.1 may.2 (fill_changes x.job index content later may.0 may.1 on_disk e) s.matches s.ordered
+    by_move (Fills index) a may e = fills p d content later k x index a may.0 may.1 may.2 (fill_changes x.submission index content later may.0 may.1 on_disk e) s.matches s.ordered
     by_move (Reads index words) a may e = same (Reads index words) (reads p d content k x index words a may.0 may.1 e.0 s.matches) e.1
     by_move Flushes a may e = same Flushes (flushes p d content k x a may s.matches) e
-    by_move Trims a may e = trims p d content later k x a may.0 may.1 (trim_changes x.job content later may.0 on_disk e) s.matches s.ordered
+    by_move Trims a may e = trims p d content later k x a may.0 may.1 (trim_changes x.submission content later may.0 on_disk e) s.matches s.ordered
     by_move (Fails index) a may e = fails p d content later k x index a may.0 may.1 (lost_changes _ _ content later e) s.matches s.ordered
     by_move (Ends status) a may e = silent (Ends status) refl may a e
     by_move (BeginsResponse status) a may e = silent (BeginsResponse status) refl may a e
@@ -73,7 +73,7 @@ pub record Goes (p : Pipeline) (d : Disk) (report : List Line) (content : List (
   pub run : after report d ≡ Some disk
   pub stands : Stands p disk content
 
-move_goes : (p : Pipeline) (d : Disk) (content later : List (List ℕ)) (k : ℕ) (x : PipelineRequest) (move : Move) → IsAt p k x (station_before x.job move) → May p k x move → DiskDoes x.job move content later → Stands p d content
+move_goes : (p : Pipeline) (d : Disk) (content later : List (List ℕ)) (k : ℕ) (x : PipelineRequest) (move : Move) → IsAt p k x (station_before x.submission move) → May p k x move → DiskDoes x.submission move content later → Stands p d content
     → Goes (next p (Moves k x move)) d (move_lines k move) later
 move_goes p d content later k x move at may does s =
     let leads = move_leads p d content later k x move at may does s in
@@ -83,39 +83,39 @@ move_goes p d content later k x move at may does s =
       stands = record {
         matches = leads.matches;
         ordered = move_ordered p k x move at may s.ordered;
-        on_disk = each_kept (λ j (y : PipelineRequest). IsOnDisk p.options.sectors y.job) p.requests k (moved x move) (s.on_disk k x at.here) s.on_disk;
-        sized = move_sized x.job move content later does ∙ s.sized;
+        on_disk = each_kept (λ j (y : PipelineRequest). IsOnDisk p.options.sectors y.submission) p.requests k (moved x move) (s.on_disk k x at.here) s.on_disk;
+        sized = move_sized x.submission move content later does ∙ s.sized;
       };
     }
 
 -- a submission
-submit_goes : (p : Pipeline) (d : Disk) (content : List (List ℕ)) (job : Job) → refusal_now p job ≡ None → Stands p d content → Goes (next p (Submits job)) d (step_lines p (Submits job)) content
-submit_goes p d content job accepted s =
+submit_goes : (p : Pipeline) (d : Disk) (content : List (List ℕ)) (submission : Submission) → refusal_now p submission ≡ None → Stands p d content → Goes (next p (Submits submission)) d (step_lines p (Submits submission)) content
+submit_goes p d content submission accepted s =
     let m = s.matches in
     let many : length d.requests ≡ length p.requests = ap length m.requests ∙ length-map p.requests asked in
     let test : (length p.requests + 1 == length d.requests + 1) ≡ true = grind (arith, nat_tests) in
-    let more = length_push p.requests (submitted job) in
+    let more = length_push p.requests (submitted submission) in
     record {
-      disk = record d { requests = d.requests ++ opened job ∷ [] };
-      run = one_line d _ (lines.Submit (length p.requests + 1) job) (rw test refl);
+      disk = record d { requests = d.requests ++ opened submission ∷ [] };
+      run = one_line d _ (lines.Submit (length p.requests + 1) submission) (rw test refl);
       stands = record {
         matches = record {
-          requests = rw m.requests (sym (map_more asked p.requests (submitted job)));
-          each = each_more (IsTold d.done d.noted) (IsTold d.done d.noted) p.requests (submitted job) (record { done = m.later (length p.requests + 1) (omega arith); noted = λ i w e. absurd (none-some w e); long = tt; served = refl }) (λ j y e h. h) m.each;
+          requests = rw m.requests (sym (map_more asked p.requests (submitted submission)));
+          each = each_more (IsTold d.done d.noted) (IsTold d.done d.noted) p.requests (submitted submission) (record { done = m.later (length p.requests + 1) (omega arith); noted = λ i w e. absurd (none-some w e); long = tt; served = refl }) (λ j y e h. h) m.each;
           later = λ id above. m.later id (omega arith);
           known = m.known;
         };
-        ordered = submit_ordered p.requests p.ring.pushed p.ring.fetched job s.ordered;
-        on_disk = each_more (λ j (y : PipelineRequest). IsOnDisk p.options.sectors y.job) (λ j (y : PipelineRequest). IsOnDisk p.options.sectors y.job) p.requests (submitted job) (accepted_on_disk (sight_of p) p.options (map asked p.requests) job accepted) (λ j y e h. h) s.on_disk;
+        ordered = submit_ordered p.requests p.ring.pushed p.ring.fetched submission s.ordered;
+        on_disk = each_more (λ j (y : PipelineRequest). IsOnDisk p.options.sectors y.submission) (λ j (y : PipelineRequest). IsOnDisk p.options.sectors y.submission) p.requests (submitted submission) (accepted_on_disk (sight_of p) p.options (map asked p.requests) submission accepted) (λ j y e h. h) s.on_disk;
         sized = s.sized;
       };
     }
 
 -- a new epoch
-again_done : (id : ℕ) (job : Job) (station : Station) → IsDone [] id (done_at job (station_again station))
-again_done id job (Telling n) = tt
-again_done id job (Finished s) = tt
-again_done id job station = done_none id
+again_done : (id : ℕ) (submission : Submission) (station : Station) → IsDone [] id (done_at submission (station_again station))
+again_done id submission (Telling n) = tt
+again_done id submission (Finished s) = tt
+again_done id submission station = done_none id
 
 again_long : (station : Station) (reads : Bool) (words : List (List ℕ)) → IsLong (station_again station) reads words
 again_long (Telling n) reads words = tt
@@ -127,10 +127,10 @@ again_served (Telling n) = refl
 again_served (Finished s) = refl
 again_served station = refl
 
-again_as : (job : Job) (station : Station) → reopened (asked_at job station) ≡ asked_at job (station_again station)
-again_as job (Telling n) = refl
-again_as job (Finished s) = refl
-again_as job station = refl
+again_as : (submission : Submission) (station : Station) → reopened (asked_at submission station) ≡ asked_at submission (station_again station)
+again_as submission (Telling n) = refl
+again_as submission (Finished s) = refl
+again_as submission station = refl
 
 resume_goes : (p : Pipeline) (d : Disk) (content : List (List ℕ)) → Stands p d content → Goes (next p Resumes) d (step_lines p Resumes) content
 resume_goes p d content s =
@@ -140,13 +140,13 @@ resume_goes p d content s =
       run = refl;
       stands = record {
         matches = record {
-          requests = rw m.requests (map_twice asked reopened again p.requests (λ x. again_as x.job x.station));
-          each = each_map again (IsTold d.done d.noted) (IsTold [] d.noted) p.requests (λ j y h. record { done = again_done (j + 1) y.job y.station; noted = h.noted; long = again_long y.station (is_read y.job) y.words; served = again_served y.station }) m.each;
+          requests = rw m.requests (map_twice asked reopened again p.requests (λ x. again_as x.submission x.station));
+          each = each_map again (IsTold d.done d.noted) (IsTold [] d.noted) p.requests (λ j y h. record { done = again_done (j + 1) y.submission y.station; noted = h.noted; long = again_long y.station (is_read y.submission) y.words; served = again_served y.station }) m.each;
           later = λ id above. done_none id;
           known = m.known;
         };
         ordered = resume_ordered p.requests p.ring.pushed p.ring.fetched s.ordered;
-        on_disk = each_map again (λ j (y : PipelineRequest). IsOnDisk p.options.sectors y.job) (λ j (y : PipelineRequest). IsOnDisk p.options.sectors y.job) p.requests (λ j y h. h) s.on_disk;
+        on_disk = each_map again (λ j (y : PipelineRequest). IsOnDisk p.options.sectors y.submission) (λ j (y : PipelineRequest). IsOnDisk p.options.sectors y.submission) p.requests (λ j y h. h) s.on_disk;
         sized = s.sized;
       };
     }
@@ -192,8 +192,8 @@ step_goes p d content later s may does stands = by_step s may does
     same t goes e = subst (λ (c : List (List ℕ)). Goes (next p t) d (step_lines p t) c) (sym e) goes
 
     by_step : (t : Step) → IsAllowed p t → DiskGoes t content later → Goes (next p t) d (step_lines p t) later
-    by_step (Submits job) may e = same (Submits job) (submit_goes p d content job may stands) e
-    by_step (Refuses job refusal) may e = same (Refuses job refusal) (shows p p.front d content (lines.Refuse refusal) refl stands) e
+    by_step (Submits submission) may e = same (Submits submission) (submit_goes p d content submission may stands) e
+    by_step (Refuses submission refusal) may e = same (Refuses submission refusal) (shows p p.front d content (lines.Refuse refusal) refl stands) e
     by_step (Moves k x move) may e = move_goes p d content later k x move may.0 may.1 e stands
     by_step Connects may e = same Connects (shows p _ d content lines.Ready refl stands) e
     by_step StartsToClose may e = same StartsToClose (shows p _ d content lines.Closing refl stands) e

@@ -1,10 +1,10 @@
 -- Which steps the pipeline allows where it stands.
 use Rattle.std.specs.Prelude.{◌≡◌, ℕ, ◌<◌, Bool, true, false, not, ◌&&◌, ◌||◌, List, [], ◌∷◌, map, slice_get, Option, Some, None, ◌==◌}
-use Rattle.blk_base.specs.declared.config.Job.{Job}
+use Rattle.blk_base.specs.declared.config.Submission.{Submission}
 use Rattle.blk_base.specs.declared.operation.Status.TheVariants.{Unsupported}
-use Rattle.schedule_text.specs.declared.line.Halt.{Halt}
-use Rattle.schedule_text.specs.declared.line.Halt.TheVariants.{Gone, Unplugged}
-use Rattle.schedule_text.specs.declared.line.Refusal.{Refusal}
+use Rattle.blk_base.specs.declared.halt.Halt.{Halt}
+use Rattle.blk_base.specs.declared.halt.Halt.TheVariants.{Gone, Unplugged}
+use Rattle.blk_base.specs.declared.refusal.Refusal.{Refusal}
 use Rattle.schedule_text.specs.declared.line.Line.{Line}
 use Rattle.schedule_text.specs.declared.line.Line.TheVariants as lines
 use Rattle.plain_disk.specs.declared.sight.Sight.{Sight}
@@ -30,20 +30,20 @@ is_unissued station = false
 pub record IsFirst (p : Pipeline) (k : ℕ) : Type 0 where
   pub none : (j : ℕ) (y : PipelineRequest) → j < k → slice_get p.requests j ≡ Some y → is_unissued y.station ≡ false
 
--- a job that has places left
-abbrev pub is_working : Job → Station → Bool
-is_working job (Working moved) = not (moved == places_of job)
-is_working job station = false
+-- a submission that has places left
+abbrev pub is_working : Submission → Station → Bool
+is_working submission (Working moved) = not (moved == places_of submission)
+is_working submission station = false
 
 -- a write, barrier or discard that has places left, where it or the one after it is a barrier (BLKIF_OP_WRITE_BARRIER)
 abbrev pub is_in_way : Bool → PipelineRequest → Bool
-is_in_way barrier y = is_ordered y.job && (barrier || is_barrier y.job) && is_working y.job y.station
+is_in_way barrier y = is_ordered y.submission && (barrier || is_barrier y.submission) && is_working y.submission y.station
 
--- no job that was fetched before this one is in its way
+-- no submission that was fetched before this one is in its way
 pub record IsClear (p : Pipeline) (k : ℕ) (x : PipelineRequest) : Type 0 where
   pub index : ℕ
   pub entry : slice_get p.ring.pushed index ≡ Some k
-  pub clear : (i j : ℕ) (y : PipelineRequest) → i < index → slice_get p.ring.pushed i ≡ Some j → slice_get p.requests j ≡ Some y → is_in_way (is_barrier x.job) y ≡ false
+  pub clear : (i j : ℕ) (y : PipelineRequest) → i < index → slice_get p.ring.pushed i ≡ Some j → slice_get p.requests j ≡ Some y → is_in_way (is_barrier x.submission) y ≡ false
 
 -- what a move needs besides its station
 abbrev pub May : Pipeline → ℕ → PipelineRequest → Move → Type 0
@@ -51,11 +51,11 @@ May p k x BeginsEntry = Unit {0}
 May p k x Pushes = IsFirst p k
 May p k x BeginsFetch = IsNextEntry p.ring k
 May p k x Fetches = IsNextEntry p.ring k
-May p k x (Fills index) = (is_write x.job ≡ true) × (index < places_of x.job) × IsClear p k x
-May p k x (Reads index words) = (is_read x.job ≡ true) × (index < places_of x.job)
-May p k x Flushes = is_flush x.job ≡ true
-May p k x Trims = (is_discard x.job ≡ true) × IsClear p k x
-May p k x (Fails index) = (index < places_of x.job) × (is_ordered x.job ≡ true → IsClear p k x)
+May p k x (Fills index) = (is_write x.submission ≡ true) × (index < places_of x.submission) × IsClear p k x
+May p k x (Reads index words) = (is_read x.submission ≡ true) × (index < places_of x.submission)
+May p k x Flushes = is_flush x.submission ≡ true
+May p k x Trims = (is_discard x.submission ≡ true) × IsClear p k x
+May p k x (Fails index) = (index < places_of x.submission) × (is_ordered x.submission ≡ true → IsClear p k x)
 May p k x (Ends Unsupported) = ⊥
 May p k x (Ends status) = Unit {0}
 May p k x (BeginsResponse status) = Unit {0}
@@ -73,8 +73,8 @@ abbrev pub sight_of : Pipeline → Sight
 sight_of p = record { config = Some p.options; connected = p.front.connected; closing = p.front.closing; broken = false }
 
 -- how the front answers a submission, none where it accepts it
-abbrev pub refusal_now : Pipeline → Job → Option Refusal
-refusal_now p job = refusal_by (sight_of p) p.options (map asked p.requests) job
+abbrev pub refusal_now : Pipeline → Submission → Option Refusal
+refusal_now p submission = refusal_by (sight_of p) p.options (map asked p.requests) submission
 
 -- a halt of a back whose front is gone
 abbrev pub is_farewell : Halt → Bool
@@ -92,9 +92,9 @@ is_aside (lines.Move move) = true
 is_aside line = false
 
 abbrev pub IsAllowed : Pipeline → Step → Type 0
-IsAllowed p (Submits job) = refusal_now p job ≡ None
-IsAllowed p (Refuses job refusal) = refusal_now p job ≡ Some refusal
-IsAllowed p (Moves k x move) = IsAt p k x (station_before x.job move) × May p k x move
+IsAllowed p (Submits submission) = refusal_now p submission ≡ None
+IsAllowed p (Refuses submission refusal) = refusal_now p submission ≡ Some refusal
+IsAllowed p (Moves k x move) = IsAt p k x (station_before x.submission move) × May p k x move
 IsAllowed p Connects = (p.front.connected ≡ false) × (p.front.closed ≡ false)
 IsAllowed p StartsToClose = p.front.closing ≡ false
 IsAllowed p Closes = (p.front.closing ≡ true) × (p.front.closed ≡ false) × AreFinished p

@@ -1,10 +1,10 @@
 -- The pipeline: requests on their way to the disk and back (`io/blkif.h`, `io/ring.h`), and nothing of memory. It stands between the machine of shared words and the plain disk.
 use Rattle.std.specs.Prelude.{ℕ, Bool, true, false, List, [], ◌∷◌, ◌++◌, length, map, slice_set, ◌+◌}
 use Rattle.blk_base.specs.Options.{Options}
-use Rattle.blk_base.specs.declared.config.Job.{Job}
+use Rattle.blk_base.specs.declared.config.Submission.{Submission}
 use Rattle.schedule_text.specs.declared.line.Detail.{Detail}
-use Rattle.schedule_text.specs.declared.line.Halt.{Halt}
-use Rattle.schedule_text.specs.declared.line.Refusal.{Refusal}
+use Rattle.blk_base.specs.declared.halt.Halt.{Halt}
+use Rattle.blk_base.specs.declared.refusal.Refusal.{Refusal}
 use Rattle.schedule_text.specs.declared.line.Line.{Line}
 use Rattle.schedule_text.specs.declared.line.Line.TheVariants as lines
 use Rattle.pipeline_laws.specs.Station.{Station, Waiting, Telling, Finished, PipelineRequest, submitted}
@@ -29,8 +29,8 @@ pipeline_of options = record { options = options; front = record { connected = f
 
 pub data Step : Type 0 where
   -- a submission is accepted, or refused
-  Submits : (job : Job) → Step
-  Refuses : (job : Job) (refusal : Refusal) → Step
+  Submits : (submission : Submission) → Step
+  Refuses : (submission : Submission) (refusal : Refusal) → Step
   -- the request at this place of the list, as it stands, makes a move
   Moves : (k : ℕ) (x : PipelineRequest) (move : Move) → Step
   -- the front connects, begins to close, and is closed; the back leaves a front that is gone
@@ -55,8 +55,8 @@ abbrev pub again : PipelineRequest → PipelineRequest
 again x = record x { station = station_again x.station }
 
 abbrev pub next : Pipeline → Step → Pipeline
-next p (Submits job) = record p { requests = p.requests ++ submitted job ∷ [] }
-next p (Refuses job refusal) = p
+next p (Submits submission) = record p { requests = p.requests ++ submitted submission ∷ [] }
+next p (Refuses submission refusal) = p
 next p (Moves k x move) = record p { requests = slice_set p.requests k (moved x move); ring = ring_after p.ring k move }
 next p Connects = record p { front = record p.front { connected = true } }
 next p StartsToClose = record p { front = record p.front { closing = true } }
@@ -68,8 +68,8 @@ next p (Shows line) = p
 
 -- the lines of a step
 abbrev pub step_lines : Pipeline → Step → List Line
-step_lines p (Submits job) = lines.Submit (length p.requests + 1) job ∷ []
-step_lines p (Refuses job refusal) = lines.Refuse refusal ∷ []
+step_lines p (Submits submission) = lines.Submit (length p.requests + 1) submission ∷ []
+step_lines p (Refuses submission refusal) = lines.Refuse refusal ∷ []
 step_lines p (Moves k x move) = move_lines k move
 step_lines p Connects = lines.Ready ∷ []
 step_lines p StartsToClose = lines.Closing ∷ []

@@ -1,6 +1,6 @@
--- Where a request is, on its way from the front over the ring to the back, through its job, and back (the two rings of `io/ring.h`, the requests of `io/blkif.h`). It is at exactly one station.
+-- Where a request is, on its way from the front over the ring to the back, through its submission, and back (the two rings of `io/ring.h`, the requests of `io/blkif.h`). It is at exactly one station.
 use Rattle.std.specs.Prelude.{ℕ, Bool, true, false, not, List, [], Option, Some, None}
-use Rattle.blk_base.specs.declared.config.Job.{Job}
+use Rattle.blk_base.specs.declared.config.Submission.{Submission}
 use Rattle.blk_base.specs.declared.operation.Status.{Status}
 use Rattle.blk_base.specs.declared.operation.Status.TheVariants.{Okay}
 use Rattle.plain_disk.specs.declared.request.RequestStage.{RequestStage}
@@ -17,11 +17,11 @@ pub data Station : Type 0 where
   Pushed : Station
   -- the back copies the entry
   Fetching : Station
-  -- a job: so many of its places were moved, the first ones
+  -- a submission: so many of its places were moved, the first ones
   Working : (moved : ℕ) → Station
-  -- a job of which the disk failed
+  -- a submission of which the disk failed
   Failed : Station
-  -- a job at its end, with the status that its response will have
+  -- a submission at its end, with the status that its response will have
   Ended : (status : Status) → Station
   -- the back writes the response
   Replying : (status : Status) → Station
@@ -36,13 +36,13 @@ pub data Station : Type 0 where
 
 -- a request: what it asks, where it is, and what it read since it was fetched last, a list of words a sector
 pub record PipelineRequest : Type 0 where
-  pub job : Job
+  pub submission : Submission
   pub station : Station
   pub words : List (List ℕ)
 
 -- a request that was just submitted
-abbrev pub submitted : Job → PipelineRequest
-submitted job = record { job = job; station = Waiting; words = [] }
+abbrev pub submitted : Submission → PipelineRequest
+submitted submission = record { submission = submission; station = Waiting; words = [] }
 
 -- all of a request was told
 abbrev pub is_finished : Station → Bool
@@ -72,8 +72,8 @@ stage_at (Finished status) = stage.Finished
 stage_at station = stage.Open
 
 -- what the plain disk keeps of a request: its station says all of it
-abbrev pub asked_at : Job → Station → DiskRequest
-asked_at job station = record { job = job; faulted = is_faulted station; reply = reply_at station; stage = stage_at station }
+abbrev pub asked_at : Submission → Station → DiskRequest
+asked_at submission station = record { submission = submission; faulted = is_faulted station; reply = reply_at station; stage = stage_at station }
 
 abbrev pub asked : PipelineRequest → DiskRequest
-asked x = asked_at x.job x.station
+asked x = asked_at x.submission x.station

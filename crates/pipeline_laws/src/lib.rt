@@ -15,7 +15,7 @@ ghost use Rattle.blk_base.specs.declared.operation.Status.{Status};
 ghost use Rattle.blk_base.specs.declared.operation.Status.TheVariants.{Okay};
 ghost use Rattle.schedule_text.specs.declared.line.Detail.{Detail};
 ghost use Rattle.schedule_text.specs.declared.line.Line.{Line};
-ghost use Rattle.schedule_text.specs.declared.line.Refusal.{Refusal};
+ghost use Rattle.blk_base.specs.declared.refusal.Refusal.{Refusal};
 ghost use Rattle.plain_disk.specs.Request.{filling};
 ghost use Rattle.plain_disk.specs.Disk.{Disk, disk_of};
 ghost use Rattle.plain_disk.specs.Step.{after};
@@ -94,14 +94,14 @@ pub fn the_ring_is_a_queue()
 /// A write is done before a suspend and again after it, before a barrier that follows it.
 pub fn a_barrier_waits_for_a_write()
     ensures allowed { AreAllowed barrier_steps (pipeline_of two_sectors) }
-    ensures disk { (a b : List ℕ) → DiskRuns barrier_steps (a ∷ b ∷ []) (filling barrier.job 0 ∷ b ∷ []) }
+    ensures disk { (a b : List ℕ) → DiskRuns barrier_steps (a ∷ b ∷ []) (filling barrier.submission 0 ∷ b ∷ []) }
     ensures shown { lines_of barrier_steps (pipeline_of two_sectors) ≡ barrier_lines }
 {}
 
-/// Of two jobs the second is done and answered first.
+/// Of two submissions the second is done and answered first.
 pub fn a_later_job_may_be_done_first()
     ensures allowed { AreAllowed order_steps (pipeline_of two_sectors) }
-    ensures disk { (a b : List ℕ) → DiskRuns order_steps (a ∷ b ∷ []) (filling write.job 0 ∷ filling other_write.job 0 ∷ []) }
+    ensures disk { (a b : List ℕ) → DiskRuns order_steps (a ∷ b ∷ []) (filling write.submission 0 ∷ filling other_write.submission 0 ∷ []) }
     ensures shown { lines_of order_steps (pipeline_of two_sectors) ≡ order_lines }
 {}
 
@@ -115,12 +115,12 @@ pub fn a_read_whose_reply_is_lost_is_done_again()
 /// The disk fails at the second sector of a write, which is answered `error`; then the front closes.
 pub fn a_fault_is_answered_error()
     ensures allowed { AreAllowed fault_steps (pipeline_of two_sectors) }
-    ensures disk { (a b c : List ℕ) → DiskRuns fault_steps (a ∷ b ∷ []) (filling long_write.job 0 ∷ c ∷ []) }
+    ensures disk { (a b c : List ℕ) → DiskRuns fault_steps (a ∷ b ∷ []) (filling long_write.submission 0 ∷ c ∷ []) }
     ensures shown { lines_of fault_steps (pipeline_of two_sectors) ≡ fault_lines }
 {}
 
 /// What the pipeline doesn't allow: a barrier that works before an earlier write is done; an entry
-/// pushed before one of a lower number, or fetched out of turn; a job that ends `ok` with a sector
+/// pushed before one of a lower number, or fetched out of turn; a submission that ends `ok` with a sector
 /// left; a second answer; `quiet`, or a closed front, before all is told; a refusal that no rule
 /// gives, and a request past the end of the disk that is accepted.
 pub fn a_wrong_step_is_no_step_of_the_pipeline()
@@ -131,8 +131,8 @@ pub fn a_wrong_step_is_no_step_of_the_pipeline()
     ensures again { (x : PipelineRequest) (status : Status) → IsAllowed (after_steps order_steps (pipeline_of two_sectors)) (Moves 0 x (Answers status)) → ⊥ }
     ensures quiet { IsAllowed (after_steps two_jobs (pipeline_of two_sectors)) Rests → ⊥ }
     ensures closed { IsAllowed (after_steps (two_jobs ++ StartsToClose ∷ []) (pipeline_of two_sectors)) Closes → ⊥ }
-    ensures refused { (refusal : Refusal) → IsAllowed (after_steps (Connects ∷ []) (pipeline_of two_sectors)) (Refuses write.job refusal) → ⊥ }
-    ensures accepted { IsAllowed (after_steps (Connects ∷ []) (pipeline_of two_sectors)) (Submits past_end.job) → ⊥ }
+    ensures refused { (refusal : Refusal) → IsAllowed (after_steps (Connects ∷ []) (pipeline_of two_sectors)) (Refuses write.submission refusal) → ⊥ }
+    ensures accepted { IsAllowed (after_steps (Connects ∷ []) (pipeline_of two_sectors)) (Submits past_end.submission) → ⊥ }
 {}
 
 /// Two reads of one sector that show different words are no run of the plain disk, even from sectors

@@ -1,7 +1,7 @@
 -- How a report echoes a schedule: one line for each event that has an answer, in order.
 use Rattle.std.specs.Prelude.{◌≡◌, ◌≢◌, ℕ, ◌+◌, ◌*◌, ◌/◌, ◌%◌, ◌^◌, ◌<◌, ◌≤◌, Bool, true, false, List, [], ◌∷◌, ◌++◌, filter}
 use Rattle.blk_base.specs.Options.{Options}
-use Rattle.blk_base.specs.declared.config.Job.{Job}
+use Rattle.blk_base.specs.declared.config.Submission.{Submission}
 use Rattle.schedule_text.specs.declared.event.Event.{Event}
 use Rattle.schedule_text.specs.declared.event.Event.TheVariants as events
 use Rattle.schedule_text.specs.declared.line.Detail.{Detail}
@@ -10,7 +10,7 @@ use Rattle.schedule_text.specs.declared.line.Line.TheVariants as lines
 
 -- a line of a kind that echoes an event, or the end
 abbrev pub is_echo : Line → Bool
-is_echo (lines.Submit id job) = true
+is_echo (lines.Submit id submission) = true
 is_echo (lines.Refuse refusal) = true
 is_echo lines.Quiet = true
 is_echo lines.Unsettled = true
@@ -23,10 +23,10 @@ is_echo lines.End = true
 is_echo line = false
 
 -- the answer to a submission: its request with the same arguments, or a refusal
-abbrev pub AnswersSubmit : Job → Line → Type 0
-AnswersSubmit job (lines.Submit id other) = other ≡ job
-AnswersSubmit job (lines.Refuse refusal) = Unit {0}
-AnswersSubmit job line = ⊥
+abbrev pub AnswersSubmit : Submission → Line → Type 0
+AnswersSubmit submission (lines.Submit id other) = other ≡ submission
+AnswersSubmit submission (lines.Refuse refusal) = Unit {0}
+AnswersSubmit submission line = ⊥
 
 -- the answer to `settle`
 abbrev pub AnswersSettle : Line → Type 0
@@ -49,7 +49,7 @@ AreRingWords from bound (line ∷ rest) = ⊥
 
 -- the lines that answer one event
 abbrev pub Answers : ℕ → Event → List Line → Type 0
-Answers order (events.Submit job) answer = (line : Line) × (answer ≡ line ∷ []) × AnswersSubmit job line
+Answers order (events.Submit submission) answer = (line : Line) × (answer ≡ line ∷ []) × AnswersSubmit submission line
 Answers order events.Settle answer = (line : Line) × (answer ≡ line ∷ []) × AnswersSettle line
 Answers order events.Look answer = (line : Line) × (answer ≡ line ∷ []) × AnswersLook line
 Answers order events.Suspend answer = answer ≡ lines.Epoch ∷ []

@@ -3,7 +3,7 @@
 use Rattle.std.specs.Prelude.{ℕ, ◌+◌, ◌-◌, Bool, true, false, not, ◌&&◌, ◌||◌, List, [], ◌∷◌, ◌++◌, map, take, length, slice_set, Option, Some, None, option_and_then, if◌then◌else◌, ◌==◌, nat_eq, nat_lt, is_none}
 use Rattle.std.specs.List.{list_all}
 use Rattle.std.specs.Cmp.Lexicographic.{pointwise}
-use Rattle.blk_base.specs.declared.config.Job.{Job}
+use Rattle.blk_base.specs.declared.config.Submission.{Submission}
 use Rattle.blk_base.specs.declared.operation.Status.{Status}
 use Rattle.blk_base.specs.declared.operation.Status.TheVariants as status
 use Rattle.schedule_text.specs.declared.line.Line.{Line}
@@ -21,24 +21,24 @@ abbrev pub with_request : List DiskRequest → ℕ → DiskRequest → List Disk
 with_request requests id r = slice_set requests (id - 1) r
 
 -- a request was submitted, under the next number
-abbrev pub submitted_of : Disk → ℕ → Job → Option Disk
-submitted_of d id job = if id == length d.requests + 1 then Some (record d { requests = d.requests ++ opened job ∷ [] }) else None
+abbrev pub submitted_of : Disk → ℕ → Submission → Option Disk
+submitted_of d id submission = if id == length d.requests + 1 then Some (record d { requests = d.requests ++ opened submission ∷ [] }) else None
 
 -- the order condition of request `id`: each earlier write, barrier and discard is settled, where that one or this one is a barrier
 abbrev pub is_in_order : Disk → ℕ → DiskRequest → Bool
-is_in_order d id r = are_settled d.done 1 (take (id - 1) d.requests) (is_barrier r.job)
+is_in_order d id r = are_settled d.done 1 (take (id - 1) d.requests) (is_barrier r.submission)
 
 -- a place was done
 abbrev pub place : ℕ → ℕ → Place
 place id index = record { id = id; index = index }
 
 -- what the sector of a request's place holds from now on
-abbrev pub one_sector : Job → ℕ → Option (List ℕ) → Written
-one_sector job index words = record { sector = sector_of job; from = index; count = 1; words = words }
+abbrev pub one_sector : Submission → ℕ → Option (List ℕ) → Written
+one_sector submission index words = record { sector = sector_of submission; from = index; count = 1; words = words }
 
 -- what all sectors of a request hold from now on
-abbrev pub all_sectors : Job → Option (List ℕ) → Written
-all_sectors job words = record { sector = sector_of job; from = 0; count = count_of job; words = words }
+abbrev pub all_sectors : Submission → Option (List ℕ) → Written
+all_sectors submission words = record { sector = sector_of submission; from = 0; count = count_of submission; words = words }
 
 -- a place was done, and sectors hold something else
 abbrev pub served : Disk → Place → Written → Disk
@@ -48,8 +48,8 @@ served d p w = record d { done = d.done ++ p ∷ []; written = d.written ++ w �
 abbrev pub effect_of : Disk → ℕ → ℕ → Option DiskRequest → Option Disk
 effect_of d id index None = None
 effect_of d id index (Some r) =
-    if is_write r.job && may_serve d.done id r index && is_in_order d id r
-    then Some (served d (place id index) (one_sector r.job index (Some (filling r.job index))))
+    if is_write r.submission && may_serve d.done id r index && is_in_order d id r
+    then Some (served d (place id index) (one_sector r.submission index (Some (filling r.submission index))))
     else None
 
 -- the sector may hold these words: nobody knows it, or it holds them
@@ -58,22 +58,22 @@ may_hold None words = true
 may_hold (Some known) words = pointwise nat_eq known words
 
 -- what the sector of a request's place holds
-abbrev pub place_words : List (List ℕ) → List Written → Job → ℕ → Option (List ℕ)
-place_words first written job index = words_at first written (sector_of job + index)
+abbrev pub place_words : List (List ℕ) → List Written → Submission → ℕ → Option (List ℕ)
+place_words first written submission index = words_at first written (sector_of submission + index)
 
 -- a sector of a read showed these words
 abbrev pub read_of : Disk → ℕ → ℕ → List ℕ → Option DiskRequest → Option Disk
 read_of d id index words None = None
 read_of d id index words (Some r) =
-    if is_read r.job && may_serve d.done id r index && may_hold (place_words d.first d.written r.job index) words
-    then Some (record (served d (place id index) (one_sector r.job index (Some words))) { noted = d.noted ++ record { id = id; index = index; words = words } ∷ [] })
+    if is_read r.submission && may_serve d.done id r index && may_hold (place_words d.first d.written r.submission index) words
+    then Some (record (served d (place id index) (one_sector r.submission index (Some words))) { noted = d.noted ++ record { id = id; index = index; words = words } ∷ [] })
     else None
 
 -- a flush was done
 abbrev pub flushed_of : Disk → ℕ → Option DiskRequest → Option Disk
 flushed_of d id None = None
 flushed_of d id (Some r) =
-    if is_flush r.job && may_serve d.done id r 0
+    if is_flush r.submission && may_serve d.done id r 0
     then Some (record d { done = d.done ++ place id 0 ∷ [] })
     else None
 
@@ -81,28 +81,28 @@ flushed_of d id (Some r) =
 abbrev pub trimmed_of : Disk → ℕ → Option DiskRequest → Option Disk
 trimmed_of d id None = None
 trimmed_of d id (Some r) =
-    if is_discard r.job && may_serve d.done id r 0 && is_in_order d id r
-    then Some (served d (place id 0) (all_sectors r.job (Some (filling r.job 0))))
+    if is_discard r.submission && may_serve d.done id r 0 && is_in_order d id r
+    then Some (served d (place id 0) (all_sectors r.submission (Some (filling r.submission 0))))
     else None
 
 -- what a fault leaves unknown: the sector in hand of a write or barrier, the range of a discard
-abbrev pub lost_of : List Written → Job → ℕ → List Written
-lost_of written job index =
-    if is_write job then written ++ one_sector job index None ∷ []
-    else (if is_discard job then written ++ all_sectors job None ∷ []
+abbrev pub lost_of : List Written → Submission → ℕ → List Written
+lost_of written submission index =
+    if is_write submission then written ++ one_sector submission index None ∷ []
+    else (if is_discard submission then written ++ all_sectors submission None ∷ []
     else written)
 
 -- the disk failed at a place
 abbrev pub fault_of : Disk → ℕ → ℕ → Option DiskRequest → Option Disk
 fault_of d id index None = None
 fault_of d id index (Some r) =
-    if may_serve d.done id r index && (not (is_ordered r.job) || is_in_order d id r)
-    then Some (record d { requests = with_request d.requests id (record r { faulted = true }); written = lost_of d.written r.job index })
+    if may_serve d.done id r index && (not (is_ordered r.submission) || is_in_order d id r)
+    then Some (record d { requests = with_request d.requests id (record r { faulted = true }); written = lost_of d.written r.submission index })
     else None
 
 -- a reply may say this: `ok` where all is done in this epoch, `error` where the disk failed in it, never `unsupported`
 abbrev pub may_reply : Disk → ℕ → DiskRequest → Status → Bool
-may_reply d id r status.Okay = done_count d.done id == places_of r.job
+may_reply d id r status.Okay = done_count d.done id == places_of r.submission
 may_reply d id r status.Error = r.faulted
 may_reply d id r status.Unsupported = false
 
@@ -126,20 +126,20 @@ is_status (Some status.Unsupported) status.Unsupported = true
 is_status (Some a) b = false
 
 -- the stage of a request whose answer was told: a read that went well has its sectors told next
-abbrev pub told_stage : Job → Status → RequestStage
-told_stage job status = if is_read job && is_okay status then Telling 0 else Finished
+abbrev pub told_stage : Submission → Status → RequestStage
+told_stage submission status = if is_read submission && is_okay status then Telling 0 else Finished
 
 -- the front took the reply
 abbrev pub answered_of : Disk → ℕ → Status → Option DiskRequest → Option Disk
 answered_of d id status None = None
 answered_of d id status (Some r) =
     if is_open r.stage && is_status r.reply status
-    then Some (record d { requests = with_request d.requests id (record r { stage = told_stage r.job status }) })
+    then Some (record d { requests = with_request d.requests id (record r { stage = told_stage r.submission status }) })
     else None
 
 -- the stage after one sector more was told: after the last one nothing is left
-abbrev pub next_stage : Job → ℕ → RequestStage
-next_stage job index = if nat_lt (index + 1) (places_of job) then Telling (index + 1) else Finished
+abbrev pub next_stage : Submission → ℕ → RequestStage
+next_stage submission index = if nat_lt (index + 1) (places_of submission) then Telling (index + 1) else Finished
 
 -- these words were noted
 abbrev pub are_noted : Option (List ℕ) → List ℕ → Bool
@@ -156,7 +156,7 @@ abbrev pub data_of : Disk → ℕ → ℕ → List ℕ → Option DiskRequest �
 data_of d id index words None = None
 data_of d id index words (Some r) =
     if is_next r.stage index && are_noted (noted_at d.noted id index) words
-    then Some (record d { requests = with_request d.requests id (record r { stage = next_stage r.job index }) })
+    then Some (record d { requests = with_request d.requests id (record r { stage = next_stage r.submission index }) })
     else None
 
 -- a new epoch: an open request has nothing done, no fault and no reply
@@ -173,7 +173,7 @@ quiet_of d = if list_all (λ (r : DiskRequest). is_finished r.stage) d.requests 
 
 -- the step of a line
 abbrev pub step : Disk → Line → Option Disk
-step d (lines.Submit id job) = submitted_of d id job
+step d (lines.Submit id submission) = submitted_of d id submission
 step d (lines.Effect id index) = effect_of d id index (request_of d.requests id)
 step d (lines.EffectRead id index words) = read_of d id index words (request_of d.requests id)
 step d (lines.Flushed id) = flushed_of d id (request_of d.requests id)

@@ -78,7 +78,7 @@ impl PlainDisk {
         ensures stands { Steps (step self.old line.now) result self.old self.new }
     {
         match *line {
-            Line::Submit { id, job } => self.submit(id, job),
+            Line::Submit { id, submission } => self.submit(id, submission),
             Line::Effect { id, index } => self.effect(id, index),
             Line::EffectRead { id, index, words } => self.effect_read(id, index, words),
             Line::Flushed { id } => self.flushed(id),

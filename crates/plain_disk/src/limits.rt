@@ -4,7 +4,7 @@ ghost use Rattle.plain_disk.specs.Refusal.{frames_of, is_unsupported, is_refused
 
 use crate::looking;
 use crate::request::DiskRequest;
-use blk_base::{Config, Job, SectorCount};
+use blk_base::{Config, SectorCount, Submission};
 
 // The segments that so many sectors take.
 fn segments(count: SectorCount) -> u32
@@ -26,60 +26,60 @@ fn all_frames(count: SectorCount) -> u32
 }
 
 /// The frames of the pool that a request takes.
-pub fn frames_of(job: &Job) -> u32
-    ensures { result ≡ frames_of job.now }
+pub fn frames_of(submission: &Submission) -> u32
+    ensures { result ≡ frames_of submission.now }
 {
-    match *job {
-        Job::Read { count, .. } => all_frames(count),
-        Job::Write { count, .. } => all_frames(count),
-        Job::Barrier { count, .. } => segments(count),
-        Job::Flush => 0,
-        Job::Discard { .. } => 0,
+    match *submission {
+        Submission::Read { count, .. } => all_frames(count),
+        Submission::Write { count, .. } => all_frames(count),
+        Submission::Barrier { count, .. } => segments(count),
+        Submission::Flush => 0,
+        Submission::Discard { .. } => 0,
     }
 }
 
 /// Whether a request is a barrier, flush or discard, of which a read-only disk has none.
-pub fn is_unsupported(config: &Config, job: &Job) -> bool
-    ensures { result ≡ is_unsupported config.now job.now }
+pub fn is_unsupported(config: &Config, submission: &Submission) -> bool
+    ensures { result ≡ is_unsupported config.now submission.now }
 {
-    match *job {
-        Job::Read { .. } => false,
-        Job::Write { .. } => false,
-        Job::Barrier { .. } => config.read_only,
-        Job::Flush => config.read_only,
-        Job::Discard { .. } => config.read_only,
+    match *submission {
+        Submission::Read { .. } => false,
+        Submission::Write { .. } => false,
+        Submission::Barrier { .. } => config.read_only,
+        Submission::Flush => config.read_only,
+        Submission::Discard { .. } => config.read_only,
     }
 }
 
 /// Whether a request writes on a disk that is read-only.
-pub fn is_refused_write(config: &Config, job: &Job) -> bool
-    ensures { result ≡ is_refused_write config.now job.now }
+pub fn is_refused_write(config: &Config, submission: &Submission) -> bool
+    ensures { result ≡ is_refused_write config.now submission.now }
 {
-    match *job {
-        Job::Write { .. } => config.read_only,
+    match *submission {
+        Submission::Write { .. } => config.read_only,
         _ => false,
     }
 }
 
 /// Whether a request's sectors lie past the disk's end.
-pub fn is_past_end(config: &Config, job: &Job) -> bool
-    ensures { result ≡ is_past_end config.now job.now }
+pub fn is_past_end(config: &Config, submission: &Submission) -> bool
+    ensures { result ≡ is_past_end config.now submission.now }
 {
-    let sector = looking::sector_of(job);
-    let count = u64::from(looking::count_of(job));
+    let sector = looking::sector_of(submission);
+    let count = u64::from(looking::count_of(submission));
     sector > config.sectors || config.sectors - sector < count
 }
 
 /// Whether a request has more segments than one may have.
-pub fn is_long(config: &Config, job: &Job) -> bool
-    ensures { result ≡ is_long config.now job.now }
+pub fn is_long(config: &Config, submission: &Submission) -> bool
+    ensures { result ≡ is_long config.now submission.now }
 {
-    match *job {
-        Job::Read { count, .. } => segments(count) > config.indirect.max(11),
-        Job::Write { count, .. } => segments(count) > config.indirect.max(11),
-        Job::Barrier { count, .. } => segments(count) > 11,
-        Job::Flush => false,
-        Job::Discard { .. } => false,
+    match *submission {
+        Submission::Read { count, .. } => segments(count) > config.indirect.max(11),
+        Submission::Write { count, .. } => segments(count) > config.indirect.max(11),
+        Submission::Barrier { count, .. } => segments(count) > 11,
+        Submission::Flush => false,
+        Submission::Discard { .. } => false,
     }
 }
 
@@ -107,16 +107,16 @@ fn frames_held(r: &DiskRequest) -> u32
     if looking::is_finished(r.stage) {
         0
     } else {
-        frames_of(&r.job)
+        frames_of(&r.submission)
     }
 }
 
-pub fn lacks_frames(requests: &[DiskRequest], job: &Job) -> bool
-    ensures { result ≡ lacks_frames requests.now job.now }
+pub fn lacks_frames(requests: &[DiskRequest], submission: &Submission) -> bool
+    ensures { result ≡ lacks_frames requests.now submission.now }
 {
     let mut held = 0u64;
     for r in requests {
         held = held.saturating_add(u64::from(frames_held(r)));
     }
-    held.saturating_add(u64::from(frames_of(job))) > 1000
+    held.saturating_add(u64::from(frames_of(submission))) > 1000
 }

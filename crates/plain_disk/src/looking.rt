@@ -7,98 +7,101 @@ ghost use Rattle.std.specs.List.{list_all};
 ghost use Rattle.plain_disk.specs.declared.request.DiskRequest.{DiskRequest};
 
 use crate::request::{DiskRequest, Noted, Place, RequestStage, Written};
-use blk_base::{Job, SectorWords, Status};
+use blk_base::{SectorWords, Status, Submission};
 
 /// How many places a request has.
-pub fn places_of(job: &Job) -> u32
-    ensures { result ≡ places_of job.now }
+pub fn places_of(submission: &Submission) -> u32
+    ensures { result ≡ places_of submission.now }
 {
-    match *job {
-        Job::Read { count, .. } => count.get(),
-        Job::Write { count, .. } => count.get(),
-        Job::Barrier { count, .. } => count.get(),
-        Job::Flush => 1,
-        Job::Discard { .. } => 1,
+    match *submission {
+        Submission::Read { count, .. } => count.get(),
+        Submission::Write { count, .. } => count.get(),
+        Submission::Barrier { count, .. } => count.get(),
+        Submission::Flush => 1,
+        Submission::Discard { .. } => 1,
     }
 }
 
 /// The first sector of a request.
-pub fn sector_of(job: &Job) -> u64
-    ensures { result ≡ sector_of job.now }
+pub fn sector_of(submission: &Submission) -> u64
+    ensures { result ≡ sector_of submission.now }
 {
-    match *job {
-        Job::Read { sector, .. } => sector,
-        Job::Write { sector, .. } => sector,
-        Job::Barrier { sector, .. } => sector,
-        Job::Flush => 0,
-        Job::Discard { sector, .. } => sector,
+    match *submission {
+        Submission::Read { sector, .. } => sector,
+        Submission::Write { sector, .. } => sector,
+        Submission::Barrier { sector, .. } => sector,
+        Submission::Flush => 0,
+        Submission::Discard { sector, .. } => sector,
     }
 }
 
 /// How many sectors a request speaks of.
-pub fn count_of(job: &Job) -> u32
-    ensures { result ≡ count_of job.now }
+pub fn count_of(submission: &Submission) -> u32
+    ensures { result ≡ count_of submission.now }
 {
-    match *job {
-        Job::Read { count, .. } => count.get(),
-        Job::Write { count, .. } => count.get(),
-        Job::Barrier { count, .. } => count.get(),
-        Job::Flush => 0,
-        Job::Discard { count, .. } => count.get(),
+    match *submission {
+        Submission::Read { count, .. } => count.get(),
+        Submission::Write { count, .. } => count.get(),
+        Submission::Barrier { count, .. } => count.get(),
+        Submission::Flush => 0,
+        Submission::Discard { count, .. } => count.get(),
     }
 }
 
 /// The words of a sector of a write or barrier.
-pub fn filling(job: &Job, index: u32) -> SectorWords
-    ensures { result ≡ filling job.now index }
+pub fn filling(submission: &Submission, index: u32) -> SectorWords
+    ensures { result ≡ filling submission.now index }
 {
-    match *job {
-        Job::Write { tag, .. } => [tag.wrapping_add(index); 128],
-        Job::Barrier { tag, .. } => [tag.wrapping_add(index); 128],
+    match *submission {
+        Submission::Write { tag, .. } => [tag.wrapping_add(index); 128],
+        Submission::Barrier { tag, .. } => [tag.wrapping_add(index); 128],
         _ => [0; 128],
     }
 }
 
 /// Whether a request reads.
-pub fn is_read(job: &Job) -> bool
-    ensures { result ≡ is_read job.now }
+pub fn is_read(submission: &Submission) -> bool
+    ensures { result ≡ is_read submission.now }
 {
-    matches!(*job, Job::Read { .. })
+    matches!(*submission, Submission::Read { .. })
 }
 
 /// Whether a request is a flush.
-pub fn is_flush(job: &Job) -> bool
-    ensures { result ≡ is_flush job.now }
+pub fn is_flush(submission: &Submission) -> bool
+    ensures { result ≡ is_flush submission.now }
 {
-    matches!(*job, Job::Flush)
+    matches!(*submission, Submission::Flush)
 }
 
 /// Whether a request is a discard.
-pub fn is_discard(job: &Job) -> bool
-    ensures { result ≡ is_discard job.now }
+pub fn is_discard(submission: &Submission) -> bool
+    ensures { result ≡ is_discard submission.now }
 {
-    matches!(*job, Job::Discard { .. })
+    matches!(*submission, Submission::Discard { .. })
 }
 
 /// Whether a request is a barrier.
-pub fn is_barrier(job: &Job) -> bool
-    ensures { result ≡ is_barrier job.now }
+pub fn is_barrier(submission: &Submission) -> bool
+    ensures { result ≡ is_barrier submission.now }
 {
-    matches!(*job, Job::Barrier { .. })
+    matches!(*submission, Submission::Barrier { .. })
 }
 
 /// Whether a request is a write or a barrier, whose sectors are filled one by one.
-pub fn is_write(job: &Job) -> bool
-    ensures { result ≡ is_write job.now }
+pub fn is_write(submission: &Submission) -> bool
+    ensures { result ≡ is_write submission.now }
 {
-    matches!(*job, Job::Write { .. } | Job::Barrier { .. })
+    matches!(
+        *submission,
+        Submission::Write { .. } | Submission::Barrier { .. }
+    )
 }
 
 /// Whether a barrier orders a request: a write, a barrier or a discard.
-pub fn is_ordered(job: &Job) -> bool
-    ensures { result ≡ is_ordered job.now }
+pub fn is_ordered(submission: &Submission) -> bool
+    ensures { result ≡ is_ordered submission.now }
 {
-    is_write(job) || is_discard(job)
+    is_write(submission) || is_discard(submission)
 }
 
 /// Whether a request's answer wasn't told.
@@ -136,7 +139,7 @@ pub fn may_serve(done: &[Place], id: u64, r: &DiskRequest, index: u32) -> bool
     is_open(r.stage)
         && r.reply.is_none()
         && !r.faulted
-        && index < places_of(&r.job)
+        && index < places_of(&r.submission)
         && !is_done(done, id, index)
 }
 
@@ -147,7 +150,7 @@ pub fn is_settled(done: &[Place], id: u64, r: &DiskRequest) -> bool
     !is_open(r.stage)
         || r.reply.is_some()
         || r.faulted
-        || done_count(done, id) == places_of(&r.job) as usize
+        || done_count(done, id) == places_of(&r.submission) as usize
 }
 
 /// Whether the requests of the first numbers are settled where a barrier orders them with one that
@@ -157,7 +160,7 @@ pub fn are_settled(done: &[Place], earlier: &[DiskRequest], barrier: bool) -> bo
 {
     for i in 0..earlier.len() {
         let r = &earlier[i];
-        let waits = is_ordered(&r.job) && (barrier || is_barrier(&r.job));
+        let waits = is_ordered(&r.submission) && (barrier || is_barrier(&r.submission));
         if waits && !is_settled(done, i as u64 + 1, r) {
             return false;
         }
@@ -224,12 +227,12 @@ pub fn noted_at(noted: &[Noted], id: u64, index: u32) -> Option<SectorWords>
 pub fn place_words(
     first: &[SectorWords],
     written: &[Written],
-    job: &Job,
+    submission: &Submission,
     index: u32,
 ) -> Option<SectorWords>
-    ensures { result ≡ place_words first.now written.now job.now index }
+    ensures { result ≡ place_words first.now written.now submission.now index }
 {
-    let sector = u128::from(sector_of(job)) + u128::from(index);
+    let sector = u128::from(sector_of(submission)) + u128::from(index);
     words_at(first, written, sector)
 }
 
@@ -276,20 +279,20 @@ pub fn is_status(reply: Option<Status>, status: Status) -> bool
 }
 
 /// The stage of a request whose answer was told.
-pub fn told_stage(job: &Job, status: Status) -> RequestStage
-    ensures { result ≡ told_stage job.now status }
+pub fn told_stage(submission: &Submission, status: Status) -> RequestStage
+    ensures { result ≡ told_stage submission.now status }
 {
-    match (is_read(job), status) {
+    match (is_read(submission), status) {
         (true, Status::Okay) => RequestStage::Telling(0),
         _ => RequestStage::Finished,
     }
 }
 
 /// The stage of a request after one sector more was told.
-pub fn next_stage(job: &Job, index: u32) -> RequestStage
-    ensures { result ≡ next_stage job.now index }
+pub fn next_stage(submission: &Submission, index: u32) -> RequestStage
+    ensures { result ≡ next_stage submission.now index }
 {
-    let places = places_of(job);
+    let places = places_of(submission);
     if index < places && index + 1 != places {
         RequestStage::Telling(index + 1)
     } else {

@@ -1,5 +1,5 @@
 // What the plain disk keeps of each request.
-use blk_base::{Job, SectorWords, Status};
+use blk_base::{SectorWords, Status, Submission};
 
 /// How far a request is told of.
 #[derive(Clone, Copy, Debug, PartialEq, Eq)]
@@ -16,7 +16,7 @@ pub enum RequestStage {
 /// present epoch alone.
 #[derive(Clone, Copy, Debug, PartialEq, Eq)]
 pub struct DiskRequest {
-    pub job: Job,
+    pub submission: Submission,
     pub faulted: bool,
     pub reply: Option<Status>,
     pub stage: RequestStage,

@@ -5,8 +5,8 @@ ghost use Rattle.plain_disk.specs.Request.{is_finished};
 
 use crate::limits;
 use crate::request::DiskRequest;
-use blk_base::{Config, Job};
-use schedule_text::{Line, Refusal};
+use blk_base::{Config, Refusal, Submission};
+use schedule_text::Line;
 
 /// What the lines so far show of the front: the options of the run, whether it is connected in this
 /// epoch, whether it was closing, and whether it was broken.
@@ -49,18 +49,23 @@ impl Sight {
 
     /// How a submission is refused now, where these requests were submitted; `None` exactly where it
     /// is accepted.
-    pub fn refusal(&self, requests: &[DiskRequest], job: &Job) -> Option<Refusal>
-        ensures { result ≡ refusal_at self.now self.now.config requests.now job.now }
+    pub fn refusal(&self, requests: &[DiskRequest], submission: &Submission) -> Option<Refusal>
+        ensures { result ≡ refusal_at self.now self.now.config requests.now submission.now }
     {
         match &self.config {
             None => Some(Refusal::NotReady),
-            Some(config) => self.refusal_by(config, requests, job),
+            Some(config) => self.refusal_by(config, requests, submission),
         }
     }
 
     // The first reason that applies.
-    fn refusal_by(&self, config: &Config, requests: &[DiskRequest], job: &Job) -> Option<Refusal>
-        ensures { result ≡ refusal_by self.now config.now requests.now job.now }
+    fn refusal_by(
+        &self,
+        config: &Config,
+        requests: &[DiskRequest],
+        submission: &Submission,
+    ) -> Option<Refusal>
+        ensures { result ≡ refusal_by self.now config.now requests.now submission.now }
     {
         if requests.len() == 4294967295 {
             Some(Refusal::Spent)
@@ -68,17 +73,17 @@ impl Sight {
             Some(Refusal::NotReady)
         } else if self.closing {
             Some(Refusal::Closing)
-        } else if limits::is_unsupported(config, job) {
+        } else if limits::is_unsupported(config, submission) {
             Some(Refusal::Unsupported)
-        } else if limits::is_refused_write(config, job) {
+        } else if limits::is_refused_write(config, submission) {
             Some(Refusal::ReadOnly)
-        } else if limits::is_past_end(config, job) {
+        } else if limits::is_past_end(config, submission) {
             Some(Refusal::Range)
-        } else if limits::is_long(config, job) {
+        } else if limits::is_long(config, submission) {
             Some(Refusal::Long)
         } else if limits::is_full(config, requests) {
             Some(Refusal::Full)
-        } else if limits::lacks_frames(requests, job) {
+        } else if limits::lacks_frames(requests, submission) {
             Some(Refusal::Buffers)
         } else {
             None

@@ -28,7 +28,7 @@ pub record IsAsked (asked : List DiskRequest) (r : Request) : Type 0 where
   pub at : slice_get asked (r.number - 1) ≡ Some x
   pub positive : 1 ≤ r.number
   pub unended : is_finished x.stage ≡ false
-  pub job : x.job ≡ submitted_job r.transfer r.sector r.count
+  pub submission : x.submission ≡ submitted_job r.transfer r.sector r.count
   pub shaped : IsShaped r
   pub pooled : All IsPooled r.frames.items
 
@@ -49,22 +49,22 @@ pub record AreAsked (asked : List DiskRequest) (requests : List Request) (ending
 equal : (n m : ℕ) → n ≡ m → (n == m) ≡ true
 equal n m e = grind (arith, nat_tests)
 
--- its job needs the frames that it has
-its_frames : (asked : List DiskRequest) (r : Request) → (is : IsAsked asked r) → job_frames is.x.job ≡ frames_of r
-its_frames asked r is = let shaped = is.shaped in ap job_frames is.job ∙ (all_frames r.transfer r.sector r.count shaped.counted ∙ sym shaped.frames)
+-- its submission needs the frames that it has
+its_frames : (asked : List DiskRequest) (r : Request) → (is : IsAsked asked r) → job_frames is.x.submission ≡ frames_of r
+its_frames asked r is = let shaped = is.shaped in ap job_frames is.submission ∙ (all_frames r.transfer r.sector r.count shaped.counted ∙ sym shaped.frames)
 
 -- what one of the list counts, and the frames that it holds
 counts : (q : DiskRequest) (b : Bool) → is_finished q.stage ≡ b → ◌≡◌ {A = ℕ} (cond (not (is_finished q.stage)) 1 0) (cond (not b) 1 0)
 counts q b e = ap (λ (c : Bool). cond (not c) 1 0) e
 
-holds : (q : DiskRequest) (b : Bool) → is_finished q.stage ≡ b → frames_held q ≡ (if b then 0 else job_frames q.job)
-holds q b e = ap (λ (c : Bool). if c then 0 else job_frames q.job) e
+holds : (q : DiskRequest) (b : Bool) → is_finished q.stage ≡ b → frames_held q ≡ (if b then 0 else job_frames q.submission)
+holds q b e = ap (λ (c : Bool). if c then 0 else job_frames q.submission) e
 
 -- another number's request is set anew
 others : (asked : List DiskRequest) (n : ℕ) (y : DiskRequest) (r : Request) → 1 ≤ n → r.number ≢ n → IsAsked asked r → IsAsked (slice_set asked (n - 1) y) r
 others asked n y r some apart is =
     let positive = is.positive in
-    record { x = is.x; at = get_set_other asked (n - 1) (r.number - 1) y (λ same. apart (omega arith)) ∙ is.at; positive = is.positive; unended = is.unended; job = is.job; shaped = is.shaped; pooled = is.pooled }
+    record { x = is.x; at = get_set_other asked (n - 1) (r.number - 1) y (λ same. apart (omega arith)) ∙ is.at; positive = is.positive; unended = is.unended; submission = is.submission; shaped = is.shaped; pooled = is.pooled }
 
 -- none of the others has the ending one's number
 differs : (requests : List Request) (e : Ending) (i : ℕ) (r : Request) → ((n : ℕ) → count_by (λ (q : Request). q.number == n) requests + ending_number n (Some e) ≤ 1) → slice_get requests i ≡ Some r → r.number ≢ e.request.number
@@ -75,14 +75,14 @@ differs requests e i r once at = λ same.
     omega arith
 
 -- the ending one is told a sector more, and isn't done yet
-pub told_set : (asked : List DiskRequest) (requests : List Request) (e : Ending) (pool : List Bool) (y : DiskRequest) → AreAsked asked requests (Some e) pool → is_finished y.stage ≡ false → y.job ≡ submitted_job e.request.transfer e.request.sector e.request.count
+pub told_set : (asked : List DiskRequest) (requests : List Request) (e : Ending) (pool : List Bool) (y : DiskRequest) → AreAsked asked requests (Some e) pool → is_finished y.stage ≡ false → y.submission ≡ submitted_job e.request.transfer e.request.sector e.request.count
     → AreAsked (slice_set asked (e.request.number - 1) y) requests (Some e) pool
-told_set asked requests e pool y h unended job = record {
+told_set asked requests e pool y h unended submission = record {
   each = λ i r at. others asked e.request.number y r is.positive (differs requests e i r h.once at) (h.each i r at);
   last = λ f same. subst (λ (g : Ending). IsAsked (slice_set asked (e.request.number - 1) y) g.request) (same_Some e f same) own;
   once = h.once;
   opened = (let now = count_set (λ (q : DiskRequest). not (is_finished q.stage)) asked (e.request.number - 1) is.x y is.at in let was = h.opened in let one = counts is.x false is.unended in let two = counts y false unended in omega arith);
-  held = (let now = sum_set frames_held asked (e.request.number - 1) is.x y is.at in let was = h.held in let one = holds is.x false is.unended in let two = holds y false unended in let same : job_frames y.job ≡ job_frames is.x.job = ap job_frames (job ∙ sym is.job) in omega arith);
+  held = (let now = sum_set frames_held asked (e.request.number - 1) is.x y is.at in let was = h.held in let one = holds is.x false is.unended in let two = holds y false unended in let same : job_frames y.submission ≡ job_frames is.x.submission = ap job_frames (submission ∙ sym is.submission) in omega arith);
   pooled = h.pooled;
 }
   where
@@ -90,7 +90,7 @@ told_set asked requests e pool y h unended job = record {
     is = h.last e refl
 
     own : IsAsked (slice_set asked (e.request.number - 1) y) e.request
-    own = record { x = y; at = get_set_here asked (e.request.number - 1) is.x y is.at; positive = is.positive; unended = unended; job = job; shaped = is.shaped; pooled = is.pooled }
+    own = record { x = y; at = get_set_here asked (e.request.number - 1) is.x y is.at; positive = is.positive; unended = unended; submission = submission; shaped = is.shaped; pooled = is.pooled }
 
 -- it is done, and its frames are free
 pub ended_set : (asked : List DiskRequest) (requests : List Request) (e : Ending) (pool : List Bool) (y : DiskRequest) → AreAsked asked requests (Some e) pool → is_finished y.stage ≡ true
@@ -129,9 +129,9 @@ none_freed pool [] none = refl
 none_freed pool (f ∷ frames) none = absurd (omega arith)
 
 -- a request that was accepted is open, under the next number
-pub asked_more : (asked : List DiskRequest) (requests : List Request) (ending : Option Ending) (pool taken : List Bool) (r : Request) (q : DiskRequest) → r.number ≡ length asked + 1 → q.job ≡ submitted_job r.transfer r.sector r.count → is_finished q.stage ≡ false → IsCounted r.transfer r.count
+pub asked_more : (asked : List DiskRequest) (requests : List Request) (ending : Option Ending) (pool taken : List Bool) (r : Request) (q : DiskRequest) → r.number ≡ length asked + 1 → q.submission ≡ submitted_job r.transfer r.sector r.count → is_finished q.stage ≡ false → IsCounted r.transfer r.count
     → taking (frames_for r.count + pages_for r.count) pool [] ≡ Some (r.frames.items, taken) → AreAsked asked requests ending pool → AreAsked (asked ++ q ∷ []) (requests ++ r ∷ []) ending taken
-asked_more asked requests ending pool taken r q number job unended counted frames h = record {
+asked_more asked requests ending pool taken r q number submission unended counted frames h = record {
   each = λ i p e. elim (push_was requests r i p e) [ inl was ↦ grown p (h.each i p was) | inr new ↦ subst (IsAsked (asked ++ q ∷ [])) (sym new.1) own ];
   last = λ e same. grown e.request (h.last e same);
   once = λ n. by_number n (r.number == n) refl;
@@ -144,13 +144,13 @@ asked_more asked requests ending pool taken r q number job unended counted frame
     more_pooled = pooled_more pool taken requests ending (frames_for r.count + pages_for r.count) r frames h.pooled
 
     grown : (p : Request) → IsAsked asked p → IsAsked (asked ++ q ∷ []) p
-    grown p is = record { x = is.x; at = get_append asked (q ∷ []) (p.number - 1) is.x is.at; positive = is.positive; unended = is.unended; job = is.job; shaped = is.shaped; pooled = is.pooled }
+    grown p is = record { x = is.x; at = get_append asked (q ∷ []) (p.number - 1) is.x is.at; positive = is.positive; unended = is.unended; submission = is.submission; shaped = is.shaped; pooled = is.pooled }
 
     place : r.number - 1 ≡ length asked
     place = omega arith
 
     own : IsAsked (asked ++ q ∷ []) r
-    own = record { x = q; at = ap (slice_get (asked ++ q ∷ [])) place ∙ get_last asked q; positive = omega arith; unended = unended; job = job; shaped = record { counted = counted; frames = more_pooled.2 }; pooled = more_pooled.1 }
+    own = record { x = q; at = ap (slice_get (asked ++ q ∷ [])) place ∙ get_last asked q; positive = omega arith; unended = unended; submission = submission; shaped = record { counted = counted; frames = more_pooled.2 }; pooled = more_pooled.1 }
 
     below : (n : ℕ) (p : Request) → r.number ≡ n → IsAsked asked p → (p.number == n) ≡ false
     below n p same is =

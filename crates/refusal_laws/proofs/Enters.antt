@@ -32,7 +32,7 @@ use Rattle.refusal_laws.proofs.Stands.{share_of, Stands, IsHeldAt, Keeps, breaks
 -- the order that is agreed is the front's own, and what the back is taken to serve is what the options have it serve
 abbrev pub IsMeant : Options → View → FrontState → Type 0
 IsMeant config v (state.Agreed order) = order ≡ v.shape.order
-IsMeant config v (state.Connected offers) = AreOffered config.read_only config.indirect offers
+IsMeant config v (state.Connected offers) = AreOffered config offers
 IsMeant config v s = Unit {0}
 
 module _ (config : Options) (s : Sight) (asked : List DiskRequest) (v : View) where
@@ -40,14 +40,12 @@ module _ (config : Options) (s : Sight) (asked : List DiskRequest) (v : View) wh
   StandsAt t = Stands config (share_of v) (is_ready t) (is_broken t) (ending_at t v.ending) s asked
 
   -- it is connected
-  connects : (offers : Offers) (t : FrontStage) → AreOffered config.read_only config.indirect offers → is_initialised t ≡ true → StandsAt t → Stands config (record (share_of v) { offers = offers }) true false None (seen s lines.Ready) asked
+  connects : (offers : Offers) (t : FrontStage) → AreOffered config offers → is_initialised t ≡ true → StandsAt t → Stands config (record (share_of v) { offers = offers }) true false None (seen s lines.Ready) asked
   connects offers stage.Initialised are is h = record {
     options = h.options;
     closing = h.closing;
     broken_is = h.broken_is;
     ready_is = λ stays. sym (ap not h.broken_is);
-    sectors = h.sectors;
-    read_only = h.read_only;
     order = h.order;
     offers = λ ready. are;
     last = h.last;
@@ -62,8 +60,6 @@ module _ (config : Options) (s : Sight) (asked : List DiskRequest) (v : View) wh
     closing = refl;
     broken_is = h.broken_is;
     ready_is = λ stays. absurd (true≢false stays);
-    sectors = h.sectors;
-    read_only = h.read_only;
     order = h.order;
     offers = h.offers;
     last = h.last;
@@ -77,8 +73,6 @@ module _ (config : Options) (s : Sight) (asked : List DiskRequest) (v : View) wh
     closing = h.closing;
     broken_is = h.broken_is;
     ready_is = λ stays. absurd (true≢false (sym closing ∙ stays));
-    sectors = h.sectors;
-    read_only = h.read_only;
     order = h.order;
     offers = λ ready. absurd (true≢false (sym ready));
     last = h.last;
@@ -115,8 +109,6 @@ module _ (config : Options) (s : Sight) (asked : List DiskRequest) (v : View) wh
     closing = h.closing;
     broken_is = h.broken_is;
     ready_is = λ stays. refl;
-    sectors = h.sectors;
-    read_only = h.read_only;
     order = h.order;
     offers = λ ready. absurd (true≢false (sym ready));
     last = h.last;
@@ -159,8 +151,6 @@ module _ (config : Options) (s : Sight) (asked : List DiskRequest) (v : View) wh
       closing = h.closing;
       broken_is = h.broken_is;
       ready_is = λ stays. unready v.stage is;
-      sectors = h.sectors;
-      read_only = h.read_only;
       order = h.order;
       offers = h.offers;
       last = h.last;

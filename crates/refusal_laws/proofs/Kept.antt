@@ -2,10 +2,10 @@
 use Rattle.std.proofs.Common.{◌≡◌, ℕ, cond, List, [], ◌∷◌, ◌++◌, refl, ap, sym, ◌∙◌, subst, append_assoc, append-nil, arith}
 use Rattle.std.specs.Prelude.{◌+◌, Option, Some, None, fold, slice_get, IsSomeAnd}
 use Rattle.std.proofs.lemmas.List.Sums.{sum_by-cons}
-use Rattle.blk_base.specs.declared.config.Job.{Job}
+use Rattle.blk_base.specs.declared.config.Submission.{Submission}
 use Rattle.schedule_text.specs.declared.line.Detail.{Detail}
 use Rattle.schedule_text.specs.declared.line.Detail.TheVariants.{Lines, Moves}
-use Rattle.schedule_text.specs.declared.line.Refusal.{Refusal}
+use Rattle.blk_base.specs.declared.refusal.Refusal.{Refusal}
 use Rattle.schedule_text.specs.declared.line.Line.{Line}
 use Rattle.schedule_text.specs.declared.line.Line.TheVariants as lines
 use Rattle.schedule_text.specs.Recorder.{recorded, kept_of}
@@ -41,37 +41,37 @@ kept_count Lines (lines.Move move ∷ ls) = let was = counted (lines.Move move) 
 kept_count Moves (lines.Move move ∷ ls) = let one = counted (lines.Move move) (kept_of Moves ls) in let was = counted (lines.Move move) ls in let rest = kept_count Moves ls in omega arith
 kept_count detail (line ∷ ls) = counted line (kept_of detail ls) ∙ (ap (λ (n : ℕ). cond (answers_submission line) 1 0 + n) (kept_count detail ls) ∙ sym (counted line ls))
 
-kept_rule : (detail : Detail) (before : List Line) (job : Job) → ruled_of (kept_of detail before) job ≡ ruled_of before job
-kept_rule detail before job =
-    ap (λ (s : Sight). refusal_at s s.config (asked_by (kept_of detail before)) job) (kept_seen detail before nothing_seen)
-    ∙ ap (λ (asked : List DiskRequest). let s : Sight = fold seen nothing_seen before in refusal_at s s.config asked job) (kept_asked detail before [])
+kept_rule : (detail : Detail) (before : List Line) (submission : Submission) → ruled_of (kept_of detail before) submission ≡ ruled_of before submission
+kept_rule detail before submission =
+    ap (λ (s : Sight). refusal_at s s.config (asked_by (kept_of detail before)) submission) (kept_seen detail before nothing_seen)
+    ∙ ap (λ (asked : List DiskRequest). let s : Sight = fold seen nothing_seen before in refusal_at s s.config asked submission) (kept_asked detail before [])
 
-some_kept : (jobs : List Job) (detail : Detail) (before : List Line) (refusal : Refusal) → IsRuledAt jobs before (lines.Refuse refusal) → IsRuledAt jobs (kept_of detail before) (lines.Refuse refusal)
-some_kept jobs detail before refusal is = rw (kept_count detail before) (by_job (slice_get jobs (answer_count before)) is)
+some_kept : (submissions : List Submission) (detail : Detail) (before : List Line) (refusal : Refusal) → IsRuledAt submissions before (lines.Refuse refusal) → IsRuledAt submissions (kept_of detail before) (lines.Refuse refusal)
+some_kept submissions detail before refusal is = rw (kept_count detail before) (by_job (slice_get submissions (answer_count before)) is)
   where
-    by_job : (o : Option Job) → IsSomeAnd o (λ (job : Job). ruled_of before job ≡ Some refusal) → IsSomeAnd o (λ (job : Job). ruled_of (kept_of detail before) job ≡ Some refusal)
+    by_job : (o : Option Submission) → IsSomeAnd o (λ (submission : Submission). ruled_of before submission ≡ Some refusal) → IsSomeAnd o (λ (submission : Submission). ruled_of (kept_of detail before) submission ≡ Some refusal)
     by_job None is = is
-    by_job (Some job) is = kept_rule detail before job ∙ is
+    by_job (Some submission) is = kept_rule detail before submission ∙ is
 
-module _ (jobs : List Job) (detail : Detail) where
-  rule_kept : (before : List Line) (line : Line) → IsRuledAt jobs before line → IsRuledAt jobs (kept_of detail before) line
-  rule_kept before (lines.Submit id job) is = (ap (slice_get jobs) (kept_count detail before) ∙ is.0, kept_rule detail before job ∙ is.1)
-  rule_kept before (lines.Refuse refusal) is = some_kept jobs detail before refusal is
+module _ (submissions : List Submission) (detail : Detail) where
+  rule_kept : (before : List Line) (line : Line) → IsRuledAt submissions before line → IsRuledAt submissions (kept_of detail before) line
+  rule_kept before (lines.Submit id submission) is = (ap (slice_get submissions) (kept_count detail before) ∙ is.0, kept_rule detail before submission ∙ is.1)
+  rule_kept before (lines.Refuse refusal) is = some_kept submissions detail before refusal is
   rule_kept before line is = tt
 
-kept_more : (jobs : List Job) (detail : Detail) (before : List Line) (line : Line) → IsRuledAt jobs before line → AreRuled jobs (kept_of detail before) → AreRuled jobs (kept_of detail before ++ recorded detail line)
-kept_more jobs detail before (lines.Begin config other) is are = obeys_more (IsRuledAt jobs) (kept_of detail before) (lines.Begin config detail) are tt
-kept_more jobs Lines before (lines.Move move) is are = subst (AreRuled jobs) (sym (append-nil (kept_of Lines before))) are
-kept_more jobs Moves before (lines.Move move) is are = obeys_more (IsRuledAt jobs) (kept_of Moves before) (lines.Move move) are tt
-kept_more jobs detail before line is are = obeys_more (IsRuledAt jobs) (kept_of detail before) line are (rule_kept jobs detail before line is)
+kept_more : (submissions : List Submission) (detail : Detail) (before : List Line) (line : Line) → IsRuledAt submissions before line → AreRuled submissions (kept_of detail before) → AreRuled submissions (kept_of detail before ++ recorded detail line)
+kept_more submissions detail before (lines.Begin config other) is are = obeys_more (IsRuledAt submissions) (kept_of detail before) (lines.Begin config detail) are tt
+kept_more submissions Lines before (lines.Move move) is are = subst (AreRuled submissions) (sym (append-nil (kept_of Lines before))) are
+kept_more submissions Moves before (lines.Move move) is are = obeys_more (IsRuledAt submissions) (kept_of Moves before) (lines.Move move) are tt
+kept_more submissions detail before line is are = obeys_more (IsRuledAt submissions) (kept_of detail before) line are (rule_kept submissions detail before line is)
 
-kept_all : (jobs : List Job) (detail : Detail) (ls before : List Line) → AreRuled jobs (before ++ ls) → AreRuled jobs (kept_of detail before) → AreRuled jobs (kept_of detail (before ++ ls))
-kept_all jobs detail [] before are kept = subst (λ (xs : List Line). AreRuled jobs (kept_of detail xs)) (sym (append-nil before)) kept
-kept_all jobs detail (line ∷ ls) before are kept =
-    let more : AreRuled jobs (kept_of detail before ++ recorded detail line) = kept_more jobs detail before line (are before ls line refl) kept in
+kept_all : (submissions : List Submission) (detail : Detail) (ls before : List Line) → AreRuled submissions (before ++ ls) → AreRuled submissions (kept_of detail before) → AreRuled submissions (kept_of detail (before ++ ls))
+kept_all submissions detail [] before are kept = subst (λ (xs : List Line). AreRuled submissions (kept_of detail xs)) (sym (append-nil before)) kept
+kept_all submissions detail (line ∷ ls) before are kept =
+    let more : AreRuled submissions (kept_of detail before ++ recorded detail line) = kept_more submissions detail before line (are before ls line refl) kept in
     let same : kept_of detail (before ++ line ∷ []) ≡ kept_of detail before ++ recorded detail line = kept_of-append detail before (line ∷ []) ∙ ap (λ (xs : List Line). kept_of detail before ++ xs) (append-nil (recorded detail line)) in
-    subst (λ (xs : List Line). AreRuled jobs (kept_of detail xs)) (append_assoc before (line ∷ []) ls)
-    (kept_all jobs detail ls (before ++ line ∷ []) (subst (AreRuled jobs) (sym (append_assoc before (line ∷ []) ls)) are) (subst (AreRuled jobs) (sym same) more))
+    subst (λ (xs : List Line). AreRuled submissions (kept_of detail xs)) (append_assoc before (line ∷ []) ls)
+    (kept_all submissions detail ls (before ++ line ∷ []) (subst (AreRuled submissions) (sym (append_assoc before (line ∷ []) ls)) are) (subst (AreRuled submissions) (sym same) more))
 
-pub kept_ruled : (jobs : List Job) (detail : Detail) (report : List Line) → AreRuled jobs report → AreRuled jobs (kept_of detail report)
-kept_ruled jobs detail report are = kept_all jobs detail report [] are (obeys_none (IsRuledAt jobs))
+pub kept_ruled : (submissions : List Submission) (detail : Detail) (report : List Line) → AreRuled submissions report → AreRuled submissions (kept_of detail report)
+kept_ruled submissions detail report are = kept_all submissions detail report [] are (obeys_none (IsRuledAt submissions))

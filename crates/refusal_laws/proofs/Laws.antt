@@ -2,7 +2,7 @@
 use Rattle.std.proofs.Common.{◌≡◌, List, [], ◌∷◌, ◌++◌, refl, ap, sym, ◌∙◌, subst, append-nil}
 use Rattle.std.proofs.lemmas.List.Elements.{filter_map-append}
 use Rattle.blk_base.specs.Options.{Options}
-use Rattle.blk_base.specs.declared.config.Job.{Job}
+use Rattle.blk_base.specs.declared.config.Submission.{Submission}
 use Rattle.schedule_text.specs.declared.line.Detail.{Detail}
 use Rattle.schedule_text.specs.declared.line.Line.TheVariants as lines
 use Rattle.schedule_text.specs.Range.{AreOptions}
@@ -36,8 +36,8 @@ all_submit : (hs : List Happening) (w : World) → ring.submitted_of (all_does h
 all_submit [] w = refl
 all_submit (h ∷ hs) w =
     filter_map-append ring.submitted_at (does w h) (all_does hs (happens w h))
-    ∙ (ap (λ (js : List Job). js ++ ring.submitted_of (all_does hs (happens w h))) (does_submit h w)
-    ∙ (ap (λ (js : List Job). submitted_of (h ∷ []) ++ js) (all_submit hs (happens w h)) ∙ sym (filter_map-append submitted_at (h ∷ []) hs)))
+    ∙ (ap (λ (js : List Submission). js ++ ring.submitted_of (all_does hs (happens w h))) (does_submit h w)
+    ∙ (ap (λ (js : List Submission). submitted_of (h ∷ []) ++ js) (all_submit hs (happens w h)) ∙ sym (filter_map-append submitted_at (h ∷ []) hs)))
 
 -- of the report of the ring's machine
 pub rings_ruled : (config : Options) (detail : Detail) (history : List Happening) → AreOptions config → ArePossible history (start_of config) → AreRuled (ring.submitted_of (all_does history (start_of config))) (ring_report.report_of config detail (all_does history (start_of config)))
@@ -46,7 +46,7 @@ rings_ruled config detail history are possible =
 
 whole_ruled : (config : Options) (detail : Detail) (history : List Happening) → AreOptions config → ArePossible history (start_of config) → AreRuled (submitted_of history) (report_of config detail history)
 whole_ruled config detail history are possible =
-    subst (λ (jobs : List Job). AreRuled jobs (report_of config detail history)) (all_submit history (start_of config))
+    subst (λ (submissions : List Submission). AreRuled submissions (report_of config detail history)) (all_submit history (start_of config))
     (subst (AreRuled (ring.submitted_of (all_does history (start_of config)))) (sym (report_lift config detail history)) (rings_ruled config detail history are possible))
 
 pub report_ruled : EachReportIsRuled

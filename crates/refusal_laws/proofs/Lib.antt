@@ -3,6 +3,12 @@ pub mod Stands
 pub mod Steps
 pub mod Enters
 pub mod Submits
+pub mod DiskKeys
+pub mod DiskBack
+pub mod DiskSaid
+pub mod DiskMoves
+pub mod DiskTold
+pub mod DiskLearning
 pub mod Learning
 pub mod Serves
 pub mod Runs

@@ -5,7 +5,7 @@ use Rattle.std.specs.List.{AllByRecursion}
 use Rattle.std.proofs.lemmas.List.Sums.{fold-append, sum_by-append, sum_by-cons}
 use Rattle.std.proofs.lemmas.Option.{none-some}
 use Rattle.blk_base.specs.Options.{Options}
-use Rattle.blk_base.specs.declared.config.Job.{Job}
+use Rattle.blk_base.specs.declared.config.Submission.{Submission}
 use Rattle.schedule_text.specs.declared.line.Detail.{Detail}
 use Rattle.schedule_text.specs.declared.line.Line.{Line}
 use Rattle.schedule_text.specs.declared.line.Line.TheVariants as lines
@@ -17,7 +17,7 @@ use Rattle.pipeline_laws.specs.Submissions.{answers_submission, answer_count}
 use Rattle.hypervisor.specs.Act.{FrontAct, BackAct, Took}
 use Rattle.blk_front.specs.declared.state.FrontState.{FrontState}
 use Rattle.blk_front.specs.declared.state.FrontState.TheVariants as state
-use Rattle.blk_front.specs.declared.told.Refusal.{Refusal}
+use Rattle.blk_base.specs.declared.refusal.Refusal.{Refusal}
 use Rattle.blk_front.specs.View.{View}
 use Rattle.blk_front.specs.Step.{step_of}
 use Rattle.blk_front.specs.Submit.{submit_of}
@@ -46,16 +46,16 @@ use Rattle.refusal_laws.proofs.Serves.{IsServing, AreServing}
 abbrev AreFree : List Line → Type 0
 AreFree ls = AllByRecursion (λ (line : Line). answers_submission line ≡ false) ls
 
-one_free : (jobs : List Job) (before : List Line) (line : Line) → answers_submission line ≡ false → IsRuledAt jobs before line
-one_free jobs before (lines.Submit id job) free = absurd (true≢false free)
-one_free jobs before (lines.Refuse refusal) free = absurd (true≢false free)
-one_free jobs before line free = tt
+one_free : (submissions : List Submission) (before : List Line) (line : Line) → answers_submission line ≡ false → IsRuledAt submissions before line
+one_free submissions before (lines.Submit id submission) free = absurd (true≢false free)
+one_free submissions before (lines.Refuse refusal) free = absurd (true≢false free)
+one_free submissions before line free = tt
 
-free_ruled : (jobs : List Job) (ls before : List Line) → AreFree ls → AreRuled jobs before → AreRuled jobs (before ++ ls)
-free_ruled jobs [] before all are = subst (AreRuled jobs) (sym (append-nil before)) are
-free_ruled jobs (line ∷ ls) before all are =
-    subst (AreRuled jobs) (append_assoc before (line ∷ []) ls)
-    (free_ruled jobs ls (before ++ line ∷ []) all.1 (obeys_more (IsRuledAt jobs) before line are (one_free jobs before line all.0)))
+free_ruled : (submissions : List Submission) (ls before : List Line) → AreFree ls → AreRuled submissions before → AreRuled submissions (before ++ ls)
+free_ruled submissions [] before all are = subst (AreRuled submissions) (sym (append-nil before)) are
+free_ruled submissions (line ∷ ls) before all are =
+    subst (AreRuled submissions) (append_assoc before (line ∷ []) ls)
+    (free_ruled submissions ls (before ++ line ∷ []) all.1 (obeys_more (IsRuledAt submissions) before line are (one_free submissions before line all.0)))
 
 free_count : (ls : List Line) → AreFree ls → answer_count ls ≡ 0
 free_count [] all = refl
@@ -91,12 +91,12 @@ aside_free (line ∷ ls) all = (all.0.unanswered, aside_free ls all.1)
 
 -- only the line of a submission answers one
 abbrev IsNoSubmission : Happening → Type 0
-IsNoSubmission (Submits job) = ⊥
+IsNoSubmission (Submits submission) = ⊥
 IsNoSubmission h = Unit {0}
 
 unanswered : (h : Happening) (line : Line) → IsNoSubmission h → MayShow h line → answers_submission line ≡ false
-unanswered (Submits job) line other shows = absurd other
-unanswered h (lines.Submit id job) other shows = absurd shows
+unanswered (Submits submission) line other shows = absurd other
+unanswered h (lines.Submit id submission) other shows = absurd shows
 unanswered h (lines.Refuse refusal) other shows = absurd shows
 unanswered h line other shows = refl
 
@@ -107,7 +107,7 @@ free_at w h other = lines_are (λ (line : Line). answers_submission line ≡ fal
 abbrev IsAside : Happening → Type 0
 IsAside FrontMoves = ⊥
 IsAside (FrontEnters s) = ⊥
-IsAside (Submits job) = ⊥
+IsAside (Submits submission) = ⊥
 IsAside Suspends = ⊥
 IsAside h = Unit {0}
 
@@ -117,7 +117,7 @@ one_aside h (lines.Begin config detail) aside shows = absurd (assumption)
 one_aside h lines.Ready aside shows = absurd (assumption)
 one_aside h lines.Closing aside shows = absurd (assumption)
 one_aside h (lines.Broken word) aside shows = absurd (assumption)
-one_aside h (lines.Submit id job) aside shows = absurd (assumption)
+one_aside h (lines.Submit id submission) aside shows = absurd (assumption)
 one_aside h (lines.Refuse refusal) aside shows = absurd (assumption)
 one_aside h (lines.Answer id status) aside shows = absurd (assumption)
 one_aside h (lines.Data id index words) aside shows = absurd (assumption)
@@ -139,7 +139,7 @@ job_front w number (Some a) = refl
 aside_front : (w : World) (h : Happening) → IsAside h → (let x : World = happens w h in x.front) ≡ w.front
 aside_front w FrontMoves aside = absurd aside
 aside_front w (FrontEnters s) aside = absurd aside
-aside_front w (Submits job) aside = absurd aside
+aside_front w (Submits submission) aside = absurd aside
 aside_front w Suspends aside = absurd aside
 aside_front w BackMoves aside = back_front w (back_turn w Took)
 aside_front w (JobMoves number outcome) aside = job_front w number (job_turn w number outcome)
@@ -158,24 +158,24 @@ at_end : {X : Type 0} (done rest : List X) (x : X) → slice_get (done ++ x ∷ 
 at_end [] rest x = refl
 at_end (y ∷ done) rest x = at_end done rest x
 
-module _ (config : Options) (narrow : config.indirect ≤ 960) (jobs : List Job) where
+module _ (config : Options) (narrow : config.indirect ≤ 960) (submissions : List Submission) where
   -- after these lines, and these submissions of all
-  record IsSoFar (before : List Line) (done : List Job) (w : World) : Type 0 where
+  record IsSoFar (before : List Line) (done : List Submission) (w : World) : Type 0 where
     safe : IsSafe w
     keeps : Keeps config w.front (fold seen nothing_seen before) (asked_by before)
     counted : answer_count before ≡ length done
-    ruled : AreRuled jobs before
+    ruled : AreRuled submissions before
 
   -- lines that answer no submission follow
-  goes_on : (before ls : List Line) (done : List Job) (w w' : World) → AreFree ls → IsSafe w' → Keeps config w'.front (fold seen (fold seen nothing_seen before) ls) (fold asked_step (asked_by before) ls) → IsSoFar before done w → IsSoFar (before ++ ls) done w'
+  goes_on : (before ls : List Line) (done : List Submission) (w w' : World) → AreFree ls → IsSafe w' → Keeps config w'.front (fold seen (fold seen nothing_seen before) ls) (fold asked_step (asked_by before) ls) → IsSoFar before done w → IsSoFar (before ++ ls) done w'
   goes_on before ls done w w' free safe keeps h = record {
     safe = safe;
     keeps = rw (fold-append seen nothing_seen before ls, fold-append asked_step [] before ls) keeps;
     counted = count_more before ls ∙ (let none = free_count ls free in let was = h.counted in omega arith);
-    ruled = free_ruled jobs ls before free h.ruled;
+    ruled = free_ruled submissions ls before free h.ruled;
   }
 
-  front_goes : (before : List Line) (done : List Job) (w : World) (act : Option FrontAct) → IsSafe (front_after w act) → IsSoFar before done w → IsSoFar (before ++ front_shows w act) done (front_after w act)
+  front_goes : (before : List Line) (done : List Submission) (w : World) (act : Option FrontAct) → IsSafe (front_after w act) → IsSoFar before done w → IsSoFar (before ++ front_shows w act) done (front_after w act)
   front_goes before done w None safe h = goes_on before [] done w w tt safe h.keeps h
   front_goes before done w (Some a) safe h =
       let was : IsSafe w = h.safe in
@@ -184,66 +184,66 @@ module _ (config : Options) (narrow : config.indirect ≤ 960) (jobs : List Job)
       (front_are (λ (line : Line). answers_submission line ≡ false) (λ line shows. unanswered FrontMoves line tt shows) w (Some a)) safe
       (step_goes config (fold seen nothing_seen before) (asked_by before) w.front was.front_told h.keeps a.answer) h
 
-  aside_goes : (before : List Line) (done : List Job) (w : World) (g : Happening) → IsAside g → IsSoFar before done w → IsSoFar (before ++ lines_at w g) done (happens w g)
+  aside_goes : (before : List Line) (done : List Submission) (w : World) (g : Happening) → IsAside g → IsSoFar before done w → IsSoFar (before ++ lines_at w g) done (happens w g)
   aside_goes before done w g aside h =
       let all : AreAside (lines_at w g) = aside_lines w g aside in
       goes_on before (lines_at w g) done w (happens w g) (aside_free (lines_at w g) all) (safe_happens w g h.safe)
       (rw (aside_front w g aside, aside_seen (lines_at w g) (fold seen nothing_seen before) all, aside_asked (lines_at w g) (asked_by before) all) h.keeps) h
 
-  enters : (before : List Line) (done : List Job) (w : World) (s : FrontState) → IsPossible w (FrontEnters s) → IsServing config (FrontEnters s) → IsSoFar before done w → IsSoFar (before ++ lines_at w (FrontEnters s)) done (happens w (FrontEnters s))
+  enters : (before : List Line) (done : List Submission) (w : World) (s : FrontState) → IsPossible w (FrontEnters s) → IsServing config (FrontEnters s) → IsSoFar before done w → IsSoFar (before ++ lines_at w (FrontEnters s)) done (happens w (FrontEnters s))
   enters before done w s may serves h =
       goes_on before (enter_lines s w.front) done w (happens w (FrontEnters s)) (free_at w (FrontEnters s) tt) (safe_happens w (FrontEnters s) h.safe)
       (enters_cases (λ (x : View) (shown : List Line). Keeps config x (fold seen (fold seen nothing_seen before) shown) (fold asked_step (asked_by before) shown)) s w.front
       (λ enter. enters_goes config (fold seen nothing_seen before) (asked_by before) w.front s (meant config w s may serves) enter h.keeps) h.keeps) h
 
-  suspends : (before : List Line) (done : List Job) (w : World) → IsSoFar before done w → IsSoFar (before ++ lines_at w Suspends) done (happens w Suspends)
+  suspends : (before : List Line) (done : List Submission) (w : World) → IsSoFar before done w → IsSoFar (before ++ lines_at w Suspends) done (happens w Suspends)
   suspends before done w h =
       goes_on before (lines_at w Suspends) done w (happens w Suspends) (free_at w Suspends tt) (safe_happens w Suspends h.safe)
       (suspend_cases (λ (x : World) (shown : List Line). Keeps config x.front (fold seen (fold seen nothing_seen before) shown) (fold asked_step (asked_by before) shown)) w
       (λ may. suspends_goes config (fold seen nothing_seen before) (asked_by before) w.front h.keeps) h.keeps) h
 
   -- a submission
-  answered_by : (before : List Line) (job : Job) (r : Result ℕ Refusal) → slice_get jobs (answer_count before) ≡ Some job → ruled_of before job ≡ answer_of r → IsRuledAt jobs before (submit_line job r)
-  answered_by before job (Ok number) here is = (here, is)
-  answered_by before job (Err r) here is = subst (λ (o : Option Job). IsSomeAnd o (λ (j : Job). ruled_of before j ≡ answer_of (Err r))) (sym here) is
+  answered_by : (before : List Line) (submission : Submission) (r : Result ℕ Refusal) → slice_get submissions (answer_count before) ≡ Some submission → ruled_of before submission ≡ answer_of r → IsRuledAt submissions before (submit_line submission r)
+  answered_by before submission (Ok number) here is = (here, is)
+  answered_by before submission (Err r) here is = subst (λ (o : Option Submission). IsSomeAnd o (λ (j : Submission). ruled_of before j ≡ answer_of (Err r))) (sym here) is
 
-  one_answer : (job : Job) (r : Result ℕ Refusal) → answer_count (submit_line job r ∷ []) ≡ 1
-  one_answer job (Ok number) = refl
-  one_answer job (Err r) = refl
+  one_answer : (submission : Submission) (r : Result ℕ Refusal) → answer_count (submit_line submission r ∷ []) ≡ 1
+  one_answer submission (Ok number) = refl
+  one_answer submission (Err r) = refl
 
-  seen_answer : (s : Sight) (job : Job) (r : Result ℕ Refusal) → fold seen s (submit_line job r ∷ []) ≡ s
-  seen_answer s job (Ok number) = refl
-  seen_answer s job (Err r) = refl
+  seen_answer : (s : Sight) (submission : Submission) (r : Result ℕ Refusal) → fold seen s (submit_line submission r ∷ []) ≡ s
+  seen_answer s submission (Ok number) = refl
+  seen_answer s submission (Err r) = refl
 
-  submits : (before : List Line) (done rest : List Job) (w : World) (job : Job) → jobs ≡ done ++ job ∷ rest → IsPossible w (Submits job) → IsSoFar before done w → IsSoFar (before ++ lines_at w (Submits job)) (done ++ job ∷ []) (happens w (Submits job))
-  submits before done rest w job all may h =
-      let y : Result ℕ Refusal × View = submit_of w.front job in
+  submits : (before : List Line) (done rest : List Submission) (w : World) (submission : Submission) → submissions ≡ done ++ submission ∷ rest → IsPossible w (Submits submission) → IsSoFar before done w → IsSoFar (before ++ lines_at w (Submits submission)) (done ++ submission ∷ []) (happens w (Submits submission))
+  submits before done rest w submission all may h =
+      let y : Result ℕ Refusal × View = submit_of w.front submission in
       let s : Sight = fold seen nothing_seen before in
       let counted : answer_count before ≡ length done = h.counted in
-      let here : slice_get jobs (answer_count before) ≡ Some job = ap (λ (n : ℕ). slice_get jobs n) counted ∙ (ap (λ (js : List Job). slice_get js (length done)) all ∙ at_end done rest job) in
+      let here : slice_get submissions (answer_count before) ≡ Some submission = ap (λ (n : ℕ). slice_get submissions n) counted ∙ (ap (λ (js : List Submission). slice_get js (length done)) all ∙ at_end done rest submission) in
       record {
-        safe = safe_happens w (Submits job) h.safe;
-        keeps = rw (fold-append seen nothing_seen before (submit_line job y.0 ∷ []), fold-append asked_step [] before (submit_line job y.0 ∷ []), seen_answer s job y.0) (submit_goes config s (asked_by before) w.front job may h.keeps);
-        counted = count_more before (submit_line job y.0 ∷ []) ∙ (let one = one_answer job y.0 in let more = longer done job in omega arith);
-        ruled = obeys_more (IsRuledAt jobs) before (submit_line job y.0) h.ruled (answered_by before job y.0 here (ruled config narrow s (asked_by before) w.front h.keeps job));
+        safe = safe_happens w (Submits submission) h.safe;
+        keeps = rw (fold-append seen nothing_seen before (submit_line submission y.0 ∷ []), fold-append asked_step [] before (submit_line submission y.0 ∷ []), seen_answer s submission y.0) (submit_goes config s (asked_by before) w.front submission may h.keeps);
+        counted = count_more before (submit_line submission y.0 ∷ []) ∙ (let one = one_answer submission y.0 in let more = longer done submission in omega arith);
+        ruled = obeys_more (IsRuledAt submissions) before (submit_line submission y.0) h.ruled (answered_by before submission y.0 here (ruled config narrow s (asked_by before) w.front h.keeps submission));
       }
 
-  run : (hs : List Happening) (w : World) (before : List Line) (done : List Job) → jobs ≡ done ++ submitted_of hs → ArePossible hs w → AreServing config hs → IsSoFar before done w → AreRuled jobs (before ++ lines_of hs w)
-  run [] w before done all may serves h = free_ruled jobs [] before tt h.ruled
-  run (Submits job ∷ hs) w before done all may serves h =
-      subst (AreRuled jobs) (append_assoc before (lines_at w (Submits job)) (lines_of hs (happens w (Submits job))))
-      (run hs (happens w (Submits job)) (before ++ lines_at w (Submits job)) (done ++ job ∷ []) (all ∙ sym (append_assoc done (job ∷ []) (submitted_of hs))) may.1 serves.1 (submits before done (submitted_of hs) w job all may.0 h))
+  run : (hs : List Happening) (w : World) (before : List Line) (done : List Submission) → submissions ≡ done ++ submitted_of hs → ArePossible hs w → AreServing config hs → IsSoFar before done w → AreRuled submissions (before ++ lines_of hs w)
+  run [] w before done all may serves h = free_ruled submissions [] before tt h.ruled
+  run (Submits submission ∷ hs) w before done all may serves h =
+      subst (AreRuled submissions) (append_assoc before (lines_at w (Submits submission)) (lines_of hs (happens w (Submits submission))))
+      (run hs (happens w (Submits submission)) (before ++ lines_at w (Submits submission)) (done ++ submission ∷ []) (all ∙ sym (append_assoc done (submission ∷ []) (submitted_of hs))) may.1 serves.1 (submits before done (submitted_of hs) w submission all may.0 h))
   run (FrontMoves ∷ hs) w before done all may serves h =
-      subst (AreRuled jobs) (append_assoc before (lines_at w FrontMoves) (lines_of hs (happens w FrontMoves)))
+      subst (AreRuled submissions) (append_assoc before (lines_at w FrontMoves) (lines_of hs (happens w FrontMoves)))
       (run hs (happens w FrontMoves) (before ++ lines_at w FrontMoves) done all may.1 serves.1 (front_goes before done w (front_turn w) (safe_happens w FrontMoves h.safe) h))
   run (FrontEnters s ∷ hs) w before done all may serves h =
-      subst (AreRuled jobs) (append_assoc before (lines_at w (FrontEnters s)) (lines_of hs (happens w (FrontEnters s))))
+      subst (AreRuled submissions) (append_assoc before (lines_at w (FrontEnters s)) (lines_of hs (happens w (FrontEnters s))))
       (run hs (happens w (FrontEnters s)) (before ++ lines_at w (FrontEnters s)) done all may.1 serves.1 (enters before done w s may.0 serves.0 h))
   run (Suspends ∷ hs) w before done all may serves h =
-      subst (AreRuled jobs) (append_assoc before (lines_at w Suspends) (lines_of hs (happens w Suspends)))
+      subst (AreRuled submissions) (append_assoc before (lines_at w Suspends) (lines_of hs (happens w Suspends)))
       (run hs (happens w Suspends) (before ++ lines_at w Suspends) done all may.1 serves.1 (suspends before done w h))
   run (g ∷ hs) w before done all may serves h =
-      subst (AreRuled jobs) (append_assoc before (lines_at w g) (lines_of hs (happens w g)))
+      subst (AreRuled submissions) (append_assoc before (lines_at w g) (lines_of hs (happens w g)))
       (run hs (happens w g) (before ++ lines_at w g) done all may.1 serves.1 (aside_goes before done w g tt h))
 
   start : (detail : Detail) → IsSoFar (lines.Begin config detail ∷ []) [] (start_of config)
@@ -255,8 +255,6 @@ module _ (config : Options) (narrow : config.indirect ≤ 960) (jobs : List Job)
         closing = refl;
         broken_is = refl;
         ready_is = λ stays. refl;
-        sectors = refl;
-        read_only = refl;
         order = refl;
         offers = λ ready. absurd (true≢false (sym ready));
         last = refl;
@@ -272,7 +270,7 @@ module _ (config : Options) (narrow : config.indirect ≤ 960) (jobs : List Job)
       tt,
     );
     counted = refl;
-    ruled = obeys_more (IsRuledAt jobs) [] (lines.Begin config detail) (obeys_none (IsRuledAt jobs)) tt;
+    ruled = obeys_more (IsRuledAt submissions) [] (lines.Begin config detail) (obeys_none (IsRuledAt submissions)) tt;
   }
 
 -- the report of each history

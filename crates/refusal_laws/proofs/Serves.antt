@@ -13,8 +13,10 @@ use Rattle.blk_front.specs.declared.state.FrontState.{FrontState}
 use Rattle.blk_front.specs.declared.state.FrontState.TheVariants as enter
 use Rattle.blk_front.specs.declared.state.Offers.{Offers}
 use Rattle.blk_front.specs.State.{is_open}
-use Rattle.blk_back.specs.declared.told.Halt.{Halt}
+use Rattle.blk_base.specs.declared.halt.Halt.{Halt}
 use Rattle.xenbus_state.specs.declared.offer.Features.{Features}
+use Rattle.xenbus_state.specs.declared.offer.DiskFacts.{DiskFacts}
+use Rattle.xenbus_state.specs.Offer.{facts_of}
 use Rattle.xenbus_state.specs.declared.state.BusState.{BusState}
 use Rattle.xenbus_state.specs.declared.state.BusState.TheVariants as state
 use Rattle.xenbus_state.specs.declared.stage.FrontBusStage.{FrontBusStage}
@@ -36,17 +38,21 @@ use Rattle.vbd_back.specs.View.{offer}
 use Rattle.vbd_model.specs.World.{World, start_of, frontend_of, backend_of}
 use Rattle.vbd_model.specs.Happening.{Happening, FrontMoves, BackMoves, Closes, Suspends, front_turn, back_turn, entered_at, halted_at, back_bus_after, renewed_bus, front_bus, back_bus, does, happens, all_does}
 use Rattle.vbd_model.specs.Fit.{FrontGoesWith, IsFit}
-use Rattle.vbd_laws.proofs.FitBackKept.{Facts, facts_stepped, facts_closed}
+use Rattle.vbd_laws.proofs.FitBackKept.{Facts, facts_in, facts_stepped, facts_closed}
 use Rattle.vbd_laws.proofs.FitFrontBus.{due_cases}
-use Rattle.vbd_laws.proofs.FitFrontTerms.{features_told}
+use Rattle.vbd_laws.proofs.FitFrontTerms.{Found, found, found_told}
 use Rattle.vbd_laws.proofs.ServedFront.{IsNewsAt, news_is}
 use Rattle.vbd_laws.proofs.ServedPossible.{Stands, stands_start, stands_on}
 use Rattle.vbd_laws.proofs.MovesTurns.{front_cases, back_cases}
+use Rattle.refusal_laws.proofs.DiskKeys.{IsDiskSaid}
+use Rattle.refusal_laws.proofs.DiskSaid.{IsLate, Goes}
+use Rattle.refusal_laws.proofs.DiskTold.{Then, then_on, IsSuspend, goes_start, suspends_goes}
+use Rattle.refusal_laws.proofs.DiskLearning.{IsDiskKnown, DiskAt, Late, Said, KnowsDisk, known_on, due_knows as due_knows_disk, closed_knows as closed_knows_disk, suspended_knows as suspended_knows_disk, over_knows as over_knows_disk, Knows as KnownBy, front_knows as front_knows_disk}
 use Rattle.refusal_laws.proofs.Learning.{AreKnown, KnowsAt, Knows, due_knows, closed_knows, suspended_knows, front_knows}
 
 -- a state that the front enters, where it is connected, says what the options have the back serve
 abbrev IsKnowing : Options → FrontState → Type 0
-IsKnowing config (enter.Connected offers) = AreOffered config.read_only config.indirect offers
+IsKnowing config (enter.Connected offers) = AreOffered config offers
 IsKnowing config s = Unit {0}
 
 abbrev pub IsServing : Options → ring.Happening → Type 0
@@ -56,11 +62,14 @@ IsServing config h = Unit {0}
 abbrev pub AreServing : Options → List ring.Happening → Type 0
 AreServing config hs = AllByRecursion (IsServing config) hs
 
--- the machine is fit, its back offers what the options say, and its front has read so much of that
+-- the machine is fit, its back offers what the options say on the disk that they say, as its keys say, and its front has read so much of that
 pub record Serves (config : Options) (w : World) : Type 0 where
   pub stands : Stands w
   pub features : w.back.features ≡ offer config.read_only config.indirect
+  pub disk : w.back.disk ≡ facts_of config
+  pub goes : Goes w
   pub knows : Knows w.back.features w.front
+  pub disk_known : KnowsDisk w w.front
 
 -- a front that is connected has a port, and was told that its state was written
 not_connecting : (gone : Bool) (port : Option ℕ) → leaving gone port ≡ stage.WriteState state.Connected → ⊥
@@ -86,12 +95,14 @@ module _ (config : Options) (w : World) (h : Serves config w) where
   fit : IsFit w
   fit = let stands = h.stands in stands.fit
 
-  ready_knows : (a : FrontAct) → news_of w.front idle a.answer ≡ Some news.Ready → AreOffered config.read_only config.indirect (front_step.offers_of (front_step.bus_after (frontend_of w) a.answer))
+  ready_knows : (a : FrontAct) → news_of w.front idle a.answer ≡ Some news.Ready → AreOffered config (front_step.offers_of (front_step.bus_after (frontend_of w) a.answer))
   ready_knows a e = record {
-    barrier = ap (λ (r : Features). r.barrier) same ∙ (known.barrier ∙ ap (λ (r : Features). r.barrier) h.features);
-    flush = ap (λ (r : Features). r.flush) same ∙ (known.flush ∙ ap (λ (r : Features). r.flush) h.features);
-    discard = ap (λ (r : Features). r.discard) same ∙ (known.discard ∙ ap (λ (r : Features). r.discard) h.features);
-    indirect = ap (λ (r : Features). r.indirect) same ∙ (known.indirect ∙ ap (λ (r : Features). r.indirect) h.features);
+    sectors = ap (λ (t : Found). t.1.sectors) same ∙ (disk.0 ∙ ap (λ (r : DiskFacts). r.sectors) h.disk);
+    read_only = ap (λ (t : Found). t.1.read_only) same ∙ (disk.1 ∙ ap (λ (r : DiskFacts). r.read_only) h.disk);
+    barrier = ap (λ (t : Found). t.0.barrier) same ∙ (known.barrier ∙ ap (λ (r : Features). r.barrier) h.features);
+    flush = ap (λ (t : Found). t.0.flush) same ∙ (known.flush ∙ ap (λ (r : Features). r.flush) h.features);
+    discard = ap (λ (t : Found). t.0.discard) same ∙ (known.discard ∙ ap (λ (r : Features). r.discard) h.features);
+    indirect = ap (λ (t : Found). t.0.indirect) same ∙ (known.indirect ∙ ap (λ (r : Features). r.indirect) h.features);
   }
     where
       here : due w.front idle ≡ stage.WriteState state.Connected
@@ -100,8 +111,11 @@ module _ (config : Options) (w : World) (h : Serves config w) where
       done : a.answer ≡ answer.Done
       done = ready_done (at (due w.front idle) w.front) idle a.answer (subst (λ (d : FrontBusStage). news_at d (at (due w.front idle) w.front) idle a.answer ≡ Some news.Ready) here e)
 
-      same : (front_step.bus_after (frontend_of w) a.answer).features ≡ w.front.features
-      same = ap (λ (x : FrontAnswer). (front_step.bus_after (frontend_of w) x).features) done ∙ features_told w.front idle
+      same : found (front_step.bus_after (frontend_of w) a.answer) ≡ found w.front
+      same = ap (λ (x : FrontAnswer). found (front_step.bus_after (frontend_of w) x)) done ∙ found_told w.front idle
+
+      disk : IsDiskKnown w.front.disk w.back.disk
+      disk = subst (λ (d : FrontBusStage). DiskAt (Late w) (Said w) w.back.disk d w.front.disk) here (due_knows_disk (Late w) (Said w) w.back.disk w.front idle h.disk_known)
 
       goes : FrontGoesWith (stage.WriteState state.Connected) w.front w.rings.front.stage
       goes = subst (λ (d : FrontBusStage). FrontGoesWith d w.front w.rings.front.stage) (due_connects w.front idle here) fit.front
@@ -114,7 +128,7 @@ module _ (config : Options) (w : World) (h : Serves config w) where
   due_know (front_ask.EndGrant page) order = (tt, tt)
   due_know b order = tt
 
-  news_know : (offers : Offers) (n : Option FrontNews) (b : FrontBusAsk) (order : ℕ) → (n ≡ Some news.Ready → AreOffered config.read_only config.indirect offers) → AllByRecursion (IsKnowing config) (front_step.states_entered offers n b order)
+  news_know : (offers : Offers) (n : Option FrontNews) (b : FrontBusAsk) (order : ℕ) → (n ≡ Some news.Ready → AreOffered config offers) → AllByRecursion (IsKnowing config) (front_step.states_entered offers n b order)
   news_know offers None b order ready = due_know b order
   news_know offers (Some news.Ready) b order ready = (ready refl, due_know b order)
   news_know offers (Some news.Closing) b order ready = (tt, due_know b order)
@@ -141,22 +155,28 @@ module _ (config : Options) (w : World) (h : Serves config w) where
   does_serve (Closes end.Back) = tt
   does_serve h = (tt, tt)
 
-  -- what the back offers stays
-  moved_features : (act : Option BackAct) → (let v : BackView = back_bus_after w act in v.features) ≡ w.back.features
-  moved_features None = refl
-  moved_features (Some a) = ap (λ (t : Facts). t.0) (facts_stepped (backend_of w) a.answer)
+  -- what the back offers stays, and so does its disk
+  moved_facts : (act : Option BackAct) → facts_in (back_bus_after w act) ≡ facts_in w.back
+  moved_facts None = refl
+  moved_facts (Some a) = facts_stepped (backend_of w) a.answer
 
-  renewed_features : (may opened : Bool) → (let v : BackView = if may then renewed_bus opened w.back else w.back in v.features) ≡ w.back.features
-  renewed_features true true = refl
-  renewed_features true false = refl
-  renewed_features false opened = refl
+  renewed_facts : (may opened : Bool) → facts_in (if may then renewed_bus opened w.back else w.back) ≡ facts_in w.back
+  renewed_facts true true = refl
+  renewed_facts true false = refl
+  renewed_facts false opened = refl
+
+  facts_kept : (h : Happening) → facts_in (back_bus w h) ≡ facts_in w.back
+  facts_kept BackMoves = moved_facts (back_turn w)
+  facts_kept (Closes end.Front) = refl
+  facts_kept (Closes end.Back) = facts_closed w.back
+  facts_kept Suspends = renewed_facts (rings.may_suspend w.rings) (is_open w.rings.front.stage)
+  facts_kept h = refl
 
   features_kept : (h : Happening) → (let v : BackView = back_bus w h in v.features) ≡ w.back.features
-  features_kept BackMoves = moved_features (back_turn w)
-  features_kept (Closes end.Front) = refl
-  features_kept (Closes end.Back) = ap (λ (t : Facts). t.0) (facts_closed w.back)
-  features_kept Suspends = renewed_features (rings.may_suspend w.rings) (is_open w.rings.front.stage)
-  features_kept h = refl
+  features_kept h = ap (λ (t : Facts). t.0) (facts_kept h)
+
+  disk_kept : (h : Happening) → (let v : BackView = back_bus w h in v.disk) ≡ w.back.disk
+  disk_kept h = ap (λ (t : Facts). t.1) (facts_kept h)
 
   -- and what the front has read of it
   suspends_knows : (b : Bool) → Knows w.back.features (if b then suspended w.front else w.front)
@@ -170,15 +190,54 @@ module _ (config : Options) (w : World) (h : Serves config w) where
   knows_kept Suspends = suspends_knows (rings.may_suspend w.rings && is_open w.rings.front.stage)
   knows_kept g = h.knows
 
-  serves_on : (g : Happening) → Serves config (happens w g)
-  serves_on g = record {
+  -- so is what it has read of the disk
+  disk_on : (g : Happening) → (IsSuspend g → ⊥) → KnowsDisk w (front_bus w g)
+  disk_on FrontMoves other = front_knows_disk w (front_turn w) fit h.goes h.stands.back.sectors h.disk_known refl
+  disk_on (Closes end.Front) other = closed_knows_disk (Late w) (Said w) w.back.disk w.front h.disk_known
+  disk_on (Closes end.Back) other = h.disk_known
+  disk_on Suspends other = absurd (other tt)
+  disk_on g other = h.disk_known
+
+  -- after a suspend nothing is read
+  abbrev KnownIn : rings.World → BackView → FrontView → Type 0
+  KnownIn r b u = KnownBy (IsLate b.state) (IsDiskSaid b.features b.disk r.under.keys) b.disk u
+
+  suspended_known : KnowsDisk (happens w Suspends) (front_bus w Suspends)
+  suspended_known = by_may (rings.may_suspend w.rings)
+    where
+      by_open : (r : rings.World) (b : BackView) (o : Bool) → is_open w.rings.front.stage ≡ o → KnownIn r b (if o then suspended w.front else w.front)
+      by_open r b true opened = suspended_knows_disk (IsLate b.state) (IsDiskSaid b.features b.disk r.under.keys) b.disk w.front
+      by_open r b false over = over_knows_disk (IsLate b.state) (IsDiskSaid b.features b.disk r.under.keys) b.disk w.front.stage w.front w.rings.front.stage fit.front over
+
+      by_may : (may : Bool) → KnownIn (if may then rings.suspended w.rings else w.rings) (if may then renewed_bus (is_open w.rings.front.stage) w.back else w.back) (if may && is_open w.rings.front.stage then suspended w.front else w.front)
+      by_may true = by_open (rings.suspended w.rings) (renewed_bus (is_open w.rings.front.stage) w.back) (is_open w.rings.front.stage) refl
+      by_may false = h.disk_known
+
+  then_known : (g : Happening) → (IsSuspend g → ⊥) → Then w (happens w g) → KnowsDisk (happens w g) (front_bus w g)
+  then_known g other next =
+      let v : World = happens w g in
+      subst (λ (e : DiskFacts). DiskAt (Late v) (Said v) e (front_bus w g).stage (front_bus w g).disk) (sym (disk_kept g))
+      (known_on (Late w) (Said w) (Late v) (Said v) w.back.disk next.later next.said (front_bus w g).stage (front_bus w g).disk (disk_on g other))
+
+  serves_with : (g : Happening) → Goes (happens w g) → KnowsDisk (happens w g) (front_bus w g) → Serves config (happens w g)
+  serves_with g goes known = record {
     stands = stands_on w g h.stands;
     features = features_kept g ∙ h.features;
+    disk = disk_kept g ∙ h.disk;
+    goes = goes;
     knows = subst (λ (f : Features). Knows f (front_bus w g)) (sym (features_kept g)) (knows_kept g);
+    disk_known = known;
   }
 
+  other_on : (g : Happening) → (IsSuspend g → ⊥) → Serves config (happens w g)
+  other_on g other = let next = then_on w g other fit h.goes in serves_with g next.goes (then_known g other next)
+
+  serves_on : (g : Happening) → Serves config (happens w g)
+  serves_on Suspends = serves_with Suspends (suspends_goes w h.goes) suspended_known
+  serves_on g = other_on g (λ is. is)
+
 serves_start : (config : Options) → AreOptions config → Serves config (start_of config)
-serves_start config are = record { stands = stands_start config are; features = refl; knows = λ some. absurd (true≢false (sym some)) }
+serves_start config are = record { stands = stands_start config are; features = refl; disk = refl; goes = goes_start config; knows = λ some. absurd (true≢false (sym some)); disk_known = tt }
 
 both_serve : (config : Options) (a b : List ring.Happening) → AreServing config a → AreServing config b → AreServing config (a ++ b)
 both_serve config [] b p q = q

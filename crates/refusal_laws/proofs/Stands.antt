@@ -3,7 +3,7 @@ use Rattle.std.proofs.Common.{◌≡◌, ℕ, ◌+◌, ◌-◌, ◌<◌, ◌≤�
 use Rattle.std.specs.Prelude.{Option, Some, None, slice_get, slice_set, nat_lt}
 use Rattle.std.proofs.lemmas.Bool.Decides.{nat_tests}
 use Rattle.blk_base.specs.Options.{Options}
-use Rattle.blk_base.specs.declared.config.Job.{Job}
+use Rattle.blk_base.specs.declared.config.Submission.{Submission}
 use Rattle.blk_base.specs.declared.operation.Status.{Status}
 use Rattle.blk_base.specs.declared.operation.Status.TheVariants as status
 use Rattle.schedule_text.specs.declared.line.Line.TheVariants as lines
@@ -35,8 +35,6 @@ use Rattle.refusal_laws.proofs.Asked.{IsAsked, AreAsked, told_set, ended_set}
 -- of the front, beside its stage and the request that is ending
 pub record Share : Type 0 where
   pub closing : Bool
-  pub sectors : ℕ
-  pub read_only : Bool
   pub offers : Offers
   pub order : ℕ
   pub last : ℕ
@@ -44,18 +42,16 @@ pub record Share : Type 0 where
   pub pool : List Bool
 
 abbrev pub share_of : View → Share
-share_of v = record { closing = v.closing; sectors = v.sectors; read_only = v.read_only; offers = v.offers; order = v.shape.order; last = v.last; requests = v.requests; pool = v.pool }
+share_of v = record { closing = v.closing; offers = v.offers; order = v.shape.order; last = v.last; requests = v.requests; pool = v.pool }
 
--- the lines say whether the front is ready, unless it closes, and whether it closes or is broken; it has the options' disk and ring; once ready it knows what its back serves; and the requests that the lines leave open are its own, until it is broken
+-- the lines say whether the front is ready, unless it closes, and whether it closes or is broken; it has the options' ring; once ready it knows their disk, and what its back serves; and the requests that the lines leave open are its own, until it is broken
 pub record Stands (config : Options) (k : Share) (ready broken : Bool) (ending : Option Ending) (s : Sight) (asked : List DiskRequest) : Type 0 where
   pub options : s.config ≡ Some config
   pub closing : s.closing ≡ k.closing
   pub broken_is : s.broken ≡ broken
   pub ready_is : k.closing ≡ false → ready ≡ (s.connected && not s.broken)
-  pub sectors : k.sectors ≡ config.sectors
-  pub read_only : k.read_only ≡ config.read_only
   pub order : config.order ≡ k.order
-  pub offers : ready ≡ true → AreOffered config.read_only config.indirect k.offers
+  pub offers : ready ≡ true → AreOffered config k.offers
   pub last : length asked ≡ k.last
   pub are : broken ≡ false → AreAsked asked k.requests ending k.pool
 
@@ -84,8 +80,6 @@ breaks config k ready broken ending s asked word h = record {
   closing = h.closing;
   broken_is = refl;
   ready_is = λ stays. unready s.connected;
-  sectors = h.sectors;
-  read_only = h.read_only;
   order = h.order;
   offers = λ t. absurd (true≢false (sym t));
   last = h.last;
@@ -100,8 +94,6 @@ with_asked config k ready ending after s asked now requests pool h long all = re
   closing = h.closing;
   broken_is = h.broken_is;
   ready_is = h.ready_is;
-  sectors = h.sectors;
-  read_only = h.read_only;
   order = h.order;
   offers = h.offers;
   last = long ∙ h.last;
@@ -109,12 +101,12 @@ with_asked config k ready ending after s asked now requests pool h long all = re
 }
 
 -- a line that takes the ending request a step
-stepped : (asked : List DiskRequest) (n : ℕ) (x : DiskRequest) (to : Job → RequestStage) → 1 ≤ n → slice_get asked (n - 1) ≡ Some x → at_stage asked n to (request_of asked n) ≡ slice_set asked (n - 1) (record x { stage = to x.job })
+stepped : (asked : List DiskRequest) (n : ℕ) (x : DiskRequest) (to : Submission → RequestStage) → 1 ≤ n → slice_get asked (n - 1) ≡ Some x → at_stage asked n to (request_of asked n) ≡ slice_set asked (n - 1) (record x { stage = to x.submission })
 stepped asked n x to some at =
     let other : (n == 0) ≡ false = grind (arith, nat_tests) in
     rw (other, at) refl
 
-module _ (config : Options) (k : Share) (ready : Bool) (e : Ending) (s : Sight) (asked : List DiskRequest) (to : Job → RequestStage) (h : Stands config k ready false (Some e) s asked) where
+module _ (config : Options) (k : Share) (ready : Bool) (e : Ending) (s : Sight) (asked : List DiskRequest) (to : Submission → RequestStage) (h : Stands config k ready false (Some e) s asked) where
   all : AreAsked asked k.requests (Some e) k.pool
   all = h.are refl
 
@@ -122,7 +114,7 @@ module _ (config : Options) (k : Share) (ready : Bool) (e : Ending) (s : Sight) 
   is = all.last e refl
 
   abbrev y : DiskRequest
-  y = record is.x { stage = to is.x.job }
+  y = record is.x { stage = to is.x.submission }
 
   now : at_stage asked e.request.number to (request_of asked e.request.number) ≡ slice_set asked (e.request.number - 1) y
   now = stepped asked e.request.number is.x to is.positive is.at
@@ -133,14 +125,14 @@ module _ (config : Options) (k : Share) (ready : Bool) (e : Ending) (s : Sight) 
   line_ends done =
       subst (λ (l : List DiskRequest). Stands config (record k { pool = with_all_free k.pool e.request.frames.items }) ready false None s l) (sym now)
       (with_asked config k ready (Some e) None s asked (slice_set asked (e.request.number - 1) y) k.requests (with_all_free k.pool e.request.frames.items) h (length-set asked (e.request.number - 1) y)
-      (ended_set asked k.requests e k.pool y all (ap (λ (job : Job). is_finished (to job)) is.job ∙ done)))
+      (ended_set asked k.requests e k.pool y all (ap (λ (submission : Submission). is_finished (to submission)) is.submission ∙ done)))
 
   -- or not yet
   pub line_tells : is_finished (to (submitted_job e.request.transfer e.request.sector e.request.count)) ≡ false → Stands config k ready false (Some e) s (at_stage asked e.request.number to (request_of asked e.request.number))
   line_tells undone =
       subst (λ (l : List DiskRequest). Stands config k ready false (Some e) s l) (sym now)
       (with_asked config k ready (Some e) (Some e) s asked (slice_set asked (e.request.number - 1) y) k.requests k.pool h (length-set asked (e.request.number - 1) y)
-      (told_set asked k.requests e k.pool y all (ap (λ (job : Job). is_finished (to job)) is.job ∙ undone) is.job))
+      (told_set asked k.requests e k.pool y all (ap (λ (submission : Submission). is_finished (to submission)) is.submission ∙ undone) is.submission))
 
 -- an answer ends it, but of a read that went well
 pub told_end : (way : Transfer) (sector count : ℕ) (answer : Status) → is_finished (told_stage (submitted_job way sector count) answer) ≡ not (has_data way answer)

@@ -4,7 +4,7 @@ use Rattle.std.specs.Prelude.{Option, Some, None, Result, Ok, Err, fold, remove,
 use Rattle.std.proofs.lemmas.Option.{none-some, same_Some}
 use Rattle.std.proofs.lemmas.Bool.Decides.{nat_tests}
 use Rattle.blk_base.specs.Options.{Options}
-use Rattle.blk_base.specs.declared.config.Job.{Job}
+use Rattle.blk_base.specs.declared.config.Submission.{Submission}
 use Rattle.blk_base.specs.declared.operation.Status.{Status}
 use Rattle.blk_base.specs.declared.ask.FrontAnswer.{FrontAnswer}
 use Rattle.blk_base.specs.declared.ask.FrontAnswer.TheVariants.{Event, Word}
@@ -145,7 +145,7 @@ module _ (config : Options) (s : Sight) (asked : List DiskRequest) (v : View) (u
     by_frames false t = quiet (revokes (freed v place) r answer) untold (ends, (e, refl))
     by_frames true t =
         let none : length r.frames.items ≡ 0 = grind (arith, nat_tests) in
-        let done = line_ends config rest true e s asked (λ (job : Job). told_stage job answer) ends (told_end r.transfer r.sector r.count answer ∙ ap not (undata r answer its.shaped none)) in
+        let done = line_ends config rest true e s asked (λ (submission : Submission). told_stage submission answer) ends (told_end r.transfer r.sector r.count answer ∙ ap not (undata r answer its.shaped none)) in
         (subst (λ (pool : List Bool). Stands config (record rest { pool = pool }) true false None s (asked_step asked (lines.Answer r.number answer))) (none_freed v.pool r.frames.items none) done, tt)
 
     taken_goes : Becomes (taken v place r answer)
@@ -168,10 +168,10 @@ module _ (config : Options) (s : Sight) (asked : List DiskRequest) (v : View) (u
 
       by_data : (b : Bool) → has_data e.request.transfer e.status ≡ b
           → Becomes (if b then record v { stage = stage.ReadData 0; told = Some (told.Answer e.request.number e.status) } else record (finished e v) { told = Some (told.Answer e.request.number e.status) })
-      by_data false t = (line_ends config (share_of v) true e s asked (λ (job : Job). told_stage job e.status) ends (told_end e.request.transfer e.request.sector e.request.count e.status ∙ ap not t), tt)
+      by_data false t = (line_ends config (share_of v) true e s asked (λ (submission : Submission). told_stage submission e.status) ends (told_end e.request.transfer e.request.sector e.request.count e.status ∙ ap not t), tt)
       by_data true t =
           let read = data_way e.request.transfer e.status t in
-          let tells = line_tells config (share_of v) true e s asked (λ (job : Job). told_stage job e.status) ends (told_end e.request.transfer e.request.sector e.request.count e.status ∙ ap not t) in (
+          let tells = line_tells config (share_of v) true e s asked (λ (submission : Submission). told_stage submission e.status) ends (told_end e.request.transfer e.request.sector e.request.count e.status ∙ ap not t) in (
             subst (λ (o : Option Ending). Stands config (share_of v) true false o s (asked_step asked (lines.Answer e.request.number e.status))) (sym here) tells,
             (e, here, has_words e.request its.shaped read, read),
           )
@@ -196,14 +196,14 @@ module _ (config : Options) (s : Sight) (asked : List DiskRequest) (v : View) (u
         let left : n / 128 + 1 < e.request.count = omega arith in
         let test : nat_lt (n / 128 + 1) e.request.count ≡ true = grind (arith, nat_tests) in
         subst (λ (o : Option Ending). Stands config (share_of v) ready false o s line_asked) (sym here)
-        (line_tells config (share_of v) ready e s asked (λ (job : Job). next_stage job (n / 128)) (subst (At ready) here h) (next_read ∙ ap not test))
+        (line_tells config (share_of v) ready e s asked (λ (submission : Submission). next_stage submission (n / 128)) (subst (At ready) here h) (next_read ∙ ap not test))
 
     data_last : (ready : Bool) → n < words_in e.request → nat_lt (n + 1) (words_in e.request) ≡ false → At ready v.ending → Stands config (share_of (finished e v)) ready false None s line_asked
     data_last ready within less h =
         let all : 128 * e.request.count ≤ n + 1 = grind (arith, nat_tests) in
         let none : e.request.count ≤ n / 128 + 1 = omega arith in
         let test : nat_lt (n / 128 + 1) e.request.count ≡ false = grind (arith, nat_tests) in
-        line_ends config (share_of v) ready e s asked (λ (job : Job). next_stage job (n / 128)) (subst (At ready) here h) (next_read ∙ ap not test)
+        line_ends config (share_of v) ready e s asked (λ (submission : Submission). next_stage submission (n / 128)) (subst (At ready) here h) (next_read ∙ ap not test)
 
     is_last : n < words_in e.request → nat_lt (n + 1) (words_in e.request) ≡ false → (n % 128 == 127) ≡ true
     is_last within less =

@@ -1,9 +1,9 @@
 -- Worked reports that no machine gives, each with a hostile line before the submission.
 use Rattle.std.specs.Prelude.{List, [], ◌∷◌}
 use Rattle.blk_base.specs.Options.{Options}
-use Rattle.blk_base.specs.declared.config.Job.TheVariants.{Read}
+use Rattle.blk_base.specs.declared.config.Submission.TheVariants.{Read}
 use Rattle.schedule_text.specs.declared.line.Detail.{Detail}
-use Rattle.schedule_text.specs.declared.line.Refusal.TheVariants as refusal
+use Rattle.blk_base.specs.declared.refusal.Refusal.TheVariants as refusal
 use Rattle.schedule_text.specs.declared.line.Line.{Line}
 use Rattle.schedule_text.specs.declared.line.Line.TheVariants as lines
 

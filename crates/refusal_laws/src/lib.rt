@@ -7,8 +7,8 @@
 
 ghost use Rattle.std.specs.Prelude.{◌≡◌, ℕ, true, List, [], ◌∷◌, ◌++◌};
 ghost use Rattle.blk_base.specs.Options.{Options};
-ghost use Rattle.blk_base.specs.declared.config.Job.{Job};
-ghost use Rattle.blk_base.specs.declared.config.Job.TheVariants.{Read, Write};
+ghost use Rattle.blk_base.specs.declared.config.Submission.{Submission};
+ghost use Rattle.blk_base.specs.declared.config.Submission.TheVariants.{Read, Write};
 ghost use Rattle.schedule_text.specs.declared.line.Detail.{Detail};
 ghost use Rattle.schedule_text.specs.declared.line.Line.{Line};
 ghost use Rattle.refusal_laws.specs.Ruled.{AreRuled};
@@ -21,7 +21,7 @@ ghost use Rattle.refusal_laws.specs.Wrong.{full_though_empty, taken_while_closin
 pub fn each_submission_is_answered_by_the_first_rule()
     ensures report { EachReportIsRuled }
     ensures ended { EachEndedIsRuled }
-    ensures before { (jobs : List Job) (first more : List Line) → AreRuled jobs (first ++ more) → AreRuled jobs first }
+    ensures before { (submissions : List Submission) (first more : List Line) → AreRuled submissions (first ++ more) → AreRuled submissions first }
 {}
 
 /// After a hostile line the rule refuses a report that refuses a read as one too many where none is

@@ -4,7 +4,7 @@ use Rattle.std.specs.Prelude.{Option, Some, None}
 use Rattle.std.specs.List.{list_any}
 use Rattle.std.proofs.lemmas.List.Folds.{list_any-append}
 use Rattle.std.proofs.Math.Bool.{or-true}
-use Rattle.blk_base.specs.declared.config.Job.{Job}
+use Rattle.blk_base.specs.declared.config.Submission.{Submission}
 use Rattle.blk_base.specs.declared.ask.FrontAnswer.{FrontAnswer}
 use Rattle.schedule_text.specs.declared.line.Line.{Line}
 use Rattle.schedule_text.specs.declared.line.Line.TheVariants as lines
@@ -36,7 +36,7 @@ has_later says a b h = list_any-append says a b ∙ ap (λ (x : Bool). list_any 
 pub record IsAnnounced (so : View → Bool) (says : Line → Bool) : Type 0 where
   pub step : (v : View) (a : FrontAnswer) → (let x : View = step_of v a in so (record x { told = None })) ≡ true → so v ≡ true ⊎ Has says (front_lines (let x : View = step_of v a in x.told))
   pub enters : (s : FrontState) (v : View) → so (in_state s v) ≡ true → so v ≡ true ⊎ Has says (state_lines s)
-  pub submit : (v : View) (job : Job) → so (submit_of v job).1 ≡ true → so v ≡ true
+  pub submit : (v : View) (job : Submission) → so (submit_of v job).1 ≡ true → so v ≡ true
   pub suspend : (v : View) → so (suspended v) ≡ true → so v ≡ true
 
 -- where it is so, a line among these said it

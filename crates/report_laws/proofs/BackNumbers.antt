@@ -37,12 +37,12 @@ use Rattle.blk_back.specs.declared.stage.BackStage.{BackStage}
 use Rattle.blk_back.specs.declared.stage.BackStage.TheVariants as stage
 use Rattle.blk_back.specs.declared.told.BackTold.{BackTold}
 use Rattle.blk_back.specs.declared.told.BackTold.TheVariants as told
-use Rattle.blk_back.specs.declared.told.Halt.{Halt}
-use Rattle.blk_back.specs.declared.told.Halt.TheVariants as halt
+use Rattle.blk_base.specs.declared.halt.Halt.{Halt}
+use Rattle.blk_base.specs.declared.halt.Halt.TheVariants as halt
 use Rattle.blk_back.specs.View.{View, info_of, new_of, start_of}
 use Rattle.blk_back.specs.Ask.{reply_of, next_reply, next_gref}
 use Rattle.blk_back.specs.Step.{unmapping_next, abort, unbound, bound, other_pages, attached, halts, overrun, looked, loop_step, next_number, fetched, fetch_step, step_at, step_of, told_effect, job_step}
-use Rattle.split_model.specs.Shown.{back_lines, halt_line, halt_lines}
+use Rattle.split_model.specs.Shown.{back_lines, halt_lines}
 use Rattle.move_laws.proofs.Jobs.{direct_served}
 use Rattle.split_model.proofs.States.{halts_cases}
 use Rattle.machine_pipeline.specs.Allowed.{IsSaid, AreSaid}
@@ -387,7 +387,7 @@ abort_fits most v why halts f = (jobs_now (after_mapping v.jobs.works) why (late
 looked_fits : (most : ℕ) (v : View) (word : ℕ) (otherwise : View) → word < 2 ^ 32 → IsFit most v → IsFit most otherwise → IsFit most (looked v word otherwise)
 looked_fits most v word otherwise small f h =
     either most (overruns v.ring.indices word) (overrun v word) (if word == v.ring.indices.cons then otherwise else record v { ring = record v.ring { seen = word }; stage = stage.Loop })
-    (abort_fits most v (Some (halt.Overrun word v.ring.indices.prod)) (good (lines.Halt (halt_line (halt.Overrun word v.ring.indices.prod))) (small, f.0.produced) refl) f) (either most (word == v.ring.indices.cons) otherwise (record v { ring = record v.ring { seen = word }; stage = stage.Loop }) h (f.0, tt, f.2))
+    (abort_fits most v (Some (halt.Overrun word v.ring.indices.prod)) (good (lines.Halt (halt.Overrun word v.ring.indices.prod)) (small, f.0.produced) refl) f) (either most (word == v.ring.indices.cons) otherwise (record v { ring = record v.ring { seen = word }; stage = stage.Loop }) h (f.0, tt, f.2))
 
 -- the reply to a job that is done
 abbrev pub IsNext : Option Reply → Type 0
@@ -454,10 +454,10 @@ step_fits most stage.MapRing v (answer.Mapped m) more low h f small = (f.0, on (
     on false = tt
 step_fits most stage.MapRing v (answer.MapRefused status) more low h f small =
     let why = halt.MapRefused (next_gref v) status in
-    (jobs_now v.jobs.works (Some why) f.0.jobs (good (lines.Halt (halt_line why)) (index_fits v.grefs (length v.pages) f.0.said.0, small) refl) f.0, unbound_words v.pages, f.2)
+    (jobs_now v.jobs.works (Some why) f.0.jobs (good (lines.Halt why) (index_fits v.grefs (length v.pages) f.0.said.0, small) refl) f.0, unbound_words v.pages, f.2)
 step_fits most stage.Bind v answer.Done more low h f small = (f.0, tt, f.2)
 step_fits most stage.Bind v answer.BindRefused more low h f small =
-    (jobs_now v.jobs.works (Some (halt.BadPort v.ring.port)) f.0.jobs (good (lines.Halt (halt_line (halt.BadPort v.ring.port))) f.0.said.1 refl) f.0, unbound_words v.pages, f.2)
+    (jobs_now v.jobs.works (Some (halt.BadPort v.ring.port)) f.0.jobs (good (lines.Halt (halt.BadPort v.ring.port)) f.0.said.1 refl) f.0, unbound_words v.pages, f.2)
 step_fits most stage.Loop v a more low h f small = loop_fits most v (next_reply v) a (next_fits most v f) f small
 step_fits most (stage.Fetch k) v (answer.Word word) more low h f small = fetch_fits most v k word more low small f
 step_fits most (stage.ReplyHigh r) v a more low h f small = (f.0, h, f.2)

@@ -2,7 +2,7 @@
 use Rattle.std.proofs.Common.{◌≡◌, ◌⊎◌, inl, inr, ◌+◌, ◌*◌, ◌/◌, ◌%◌, ◌^◌, ℕ, Bool, true, false, if◌then◌else◌, List, [], ◌∷◌, length, refl, sym, ◌∙◌}
 use Rattle.std.specs.Prelude.{Option, Some, None, Result, Ok, Err, slice_set, nat_lt, ◌==◌}
 use Rattle.blk_base.specs.Distance.{distance_of}
-use Rattle.blk_base.specs.declared.config.Job.{Job}
+use Rattle.blk_base.specs.declared.config.Submission.{Submission}
 use Rattle.blk_base.specs.declared.ask.FrontAnswer.{FrontAnswer}
 use Rattle.blk_base.specs.declared.ask.FrontAnswer.TheVariants as answer
 use Rattle.ring_words.specs.Ring.{responses_of}
@@ -103,7 +103,7 @@ step_keeps (stage.ResponseHigh low) v (answer.Word high) = refl
 step_keeps s v a = refl
 
 -- and so does a submission
-pub submit_keeps : (v : View) (job : Job) → Keeps v (submit_of v job).1
+pub submit_keeps : (v : View) (job : Submission) → Keeps v (submit_of v job).1
 submit_keeps v job = submit_cases (Keeps v) v refl (λ wish taken. refl) job
 
 -- it begins to close with that line

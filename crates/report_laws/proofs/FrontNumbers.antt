@@ -11,8 +11,8 @@ use Rattle.blk_base.specs.Options.{Options}
 use Rattle.blk_base.specs.Distance.{distance_of}
 use Rattle.blk_base.specs.declared.operation.Abi.{Abi}
 use Rattle.blk_base.specs.declared.operation.Abi.TheVariants.{X64, X32}
-use Rattle.blk_base.specs.declared.config.Job.{Job}
-use Rattle.blk_base.specs.declared.config.Job.TheVariants as jobs
+use Rattle.blk_base.specs.declared.config.Submission.{Submission}
+use Rattle.blk_base.specs.declared.config.Submission.TheVariants as submissions
 use Rattle.blk_base.specs.declared.operation.Status.{Status}
 use Rattle.blk_base.specs.declared.ask.FrontAnswer.{FrontAnswer}
 use Rattle.blk_base.specs.declared.ask.FrontAnswer.TheVariants as answer
@@ -26,7 +26,7 @@ use Rattle.blk_layout.specs.Response.{status_of, response_with, response_of}
 use Rattle.blk_layout.specs.declared.response.Response.{Response}
 use Rattle.blk_layout.specs.declared.segment.Segment.{Segment}
 use Rattle.schedule_text.specs.declared.line.Line.TheVariants as lines
-use Rattle.schedule_text.specs.Range.{IsInRange, JobHasWidths, AreOptions}
+use Rattle.schedule_text.specs.Range.{IsInRange, SubmissionHasWidths, AreOptions}
 use Rattle.blk_front.specs.declared.request.Request.{Request}
 use Rattle.blk_front.specs.declared.request.Wish.{Wish}
 use Rattle.blk_front.specs.declared.request.Transfer.{Transfer}
@@ -36,8 +36,8 @@ use Rattle.blk_front.specs.declared.stage.FrontStage.TheVariants as stage
 use Rattle.blk_front.specs.declared.stage.Ending.{Ending}
 use Rattle.blk_front.specs.declared.told.Told.{Told}
 use Rattle.blk_front.specs.declared.told.Told.TheVariants as told
-use Rattle.blk_front.specs.declared.told.Refusal.{Refusal}
-use Rattle.blk_front.specs.declared.told.Refusal.TheVariants as refusal
+use Rattle.blk_base.specs.declared.refusal.Refusal.{Refusal}
+use Rattle.blk_base.specs.declared.refusal.Refusal.TheVariants as refusal
 use Rattle.blk_front.specs.Pool.{taking}
 use Rattle.blk_front.specs.Request.{operation_of, is_write, named_of, segments_of, grant_flags, has_data, frames_for, words_in, segment_in, segment_at, is_indirect, may_be_indirect, naming_words, reference_in, page_reference, page_references}
 use Rattle.blk_front.specs.View.{View, next_request, start_of}
@@ -51,7 +51,7 @@ use Rattle.blk_front.specs.State.{in_state, enters}
 use Rattle.blk_front.specs.Suspend.{stage_after, ending_after, suspended}
 use Rattle.blk_front.proofs.Order.{after_all}
 use Rattle.split_model.specs.World.{World}
-use Rattle.split_model.specs.Shown.{front_lines, state_lines, refusal_word}
+use Rattle.split_model.specs.Shown.{front_lines, state_lines}
 use Rattle.split_model.specs.Happening.{enter_lines, submit_line}
 use Rattle.split_model.proofs.States.{enters_cases}
 use Rattle.split_model.proofs.Suspending.{front_cases}
@@ -213,13 +213,13 @@ TellsWords (Some (told.Sector id index words)) = (id < 2 ^ 64) × (index < 2 ^ 3
 TellsWords (Some (told.Broken word)) = word < 2 ^ 32
 
 abbrev pub IsFit : View → Type 0
-IsFit v = AreNumbers v.sectors v.start v.last v.requests v.ending v.ring.entry v.words × HasWords v.stage × TellsWords v.told
+IsFit v = AreNumbers v.offers.sectors v.start v.last v.requests v.ending v.ring.entry v.words × HasWords v.stage × TellsWords v.told
 
 pub front_start : (config : Options) → AreOptions config → IsFit (start_of config)
 front_start config options = (
   record {
     begins = options.3;
-    sized = options.4;
+    sized = omega arith;
     given = omega arith;
     asked = All-nil IsAsked;
     ends = tt;
@@ -237,6 +237,10 @@ either false x y p q = q refl
 either_stage : (b : Bool) (x y : FrontStage) → HasWords x → HasWords y → HasWords (if b then x else y)
 either_stage true x y p q = p
 either_stage false x y p q = q
+
+sized_now : {sectors now start last : ℕ} {requests : List Request} {ending : Option Ending} {entry words : List ℕ} → now < 2 ^ 64
+    → AreNumbers sectors start last requests ending entry words → AreNumbers now start last requests ending entry words
+sized_now small k = record { begins = k.begins; sized = small; given = k.given; asked = k.asked; ends = k.ends; written = k.written; read = k.read }
 
 ending_now : {sectors start last : ℕ} {requests : List Request} {ending : Option Ending} {entry words : List ℕ} (now : Option Ending) → IsAskedEnding now
     → AreNumbers sectors start last requests ending entry words → AreNumbers sectors start last requests now entry words
@@ -339,7 +343,7 @@ told_fits : (v : View) (e : Ending) (n : ℕ) (words : List ℕ) → IsAsked e.r
 told_fits v e n words is below sector f =
     let number = is.number in
     let k = f.0 in
-    let now : AreNumbers v.sectors v.start v.last v.requests v.ending v.ring.entry words = record { begins = k.begins; sized = k.sized; given = k.given; asked = k.asked; ends = k.ends; written = k.written; read = sector } in
+    let now : AreNumbers v.offers.sectors v.start v.last v.requests v.ending v.ring.entry words = record { begins = k.begins; sized = k.sized; given = k.given; asked = k.asked; ends = k.ends; written = k.written; read = sector } in
     either (n % 128 == 127) (record v { words = words; told = Some (told.Sector e.request.number (n / 128) words) }) (record v { words = words })
     (λ t. (now, f.1, (omega arith, omega arith, sector))) (λ t. (now, f.1, f.2))
 
@@ -431,7 +435,7 @@ suspended_fits v f =
     (λ on. (
       record {
         begins = k.begins;
-        sized = k.sized;
+        sized = omega arith;
         given = k.given;
         asked = after_all IsAsked v.stage v.ending v.requests (some_asked v.ending k.ends) k.asked;
         ends = after_asked v.stage v.ending k.ends;
@@ -448,7 +452,7 @@ enters_fits w s v small f = enters_cases (λ x shown. IsFit x × AreGood shown) 
   where
     entered : (s : FrontState) → IsStated w s → IsFit (in_state s v) × AreGood (state_lines s)
     entered (state.Agreed order) small = (f, tt)
-    entered (state.Connected offers) small = ((f.0, tt, f.2), (good lines.Ready tt refl, tt))
+    entered (state.Connected offers) small = ((sized_now small f.0, tt, f.2), (good lines.Ready tt refl, tt))
     entered state.Closing small = (f, (good lines.Closing tt refl, tt))
     entered state.Leaving small = ((f.0, tt, f.2), tt)
     entered state.Closed small = ((f.0, tt, f.2), (good lines.Closed tt refl, tt))
@@ -462,17 +466,17 @@ front_good (Some (told.Sector id index words)) h = (good (lines.Data id index wo
 front_good (Some (told.Broken word)) h = (good (lines.Broken word) h refl, tt)
 
 -- and so is the answer to a submission
-abbrev pub IsSubmitted : Job → Result ℕ Refusal × View → Type 0
+abbrev pub IsSubmitted : Submission → Result ℕ Refusal × View → Type 0
 IsSubmitted job x = IsInRange (submit_line job x.0) × IsFit x.1
 
-either_submit : (job : Job) (b : Bool) (x y : Result ℕ Refusal × View) → (b ≡ true → IsSubmitted job x) → (b ≡ false → IsSubmitted job y) → IsSubmitted job (if b then x else y)
+either_submit : (job : Submission) (b : Bool) (x y : Result ℕ Refusal × View) → (b ≡ true → IsSubmitted job x) → (b ≡ false → IsSubmitted job y) → IsSubmitted job (if b then x else y)
 either_submit job true x y p q = p refl
 either_submit job false x y p q = q refl
 
-refused : (v : View) (job : Job) (why : Refusal) → IsFit v → IsSubmitted job (Err why, v)
-refused v job why f = (good (lines.Refuse (refusal_word why)) tt refl, f)
+refused : (v : View) (job : Submission) (why : Refusal) → IsFit v → IsSubmitted job (Err why, v)
+refused v job why f = (good (lines.Refuse why) tt refl, f)
 
-accepted_fits : (v : View) (job : Job) (wish : Wish) (frames : Option (List ℕ × List Bool)) → v.last + 1 < 2 ^ 32 → wish.sector < 2 ^ 64 → wish.count ≤ 7680 → named_of wish.transfer wish.count < 2 ^ 32 → JobHasWidths job → IsFit v → IsSubmitted job (submit_with v wish frames)
+accepted_fits : (v : View) (job : Submission) (wish : Wish) (frames : Option (List ℕ × List Bool)) → v.last + 1 < 2 ^ 32 → wish.sector < 2 ^ 64 → wish.count ≤ 7680 → named_of wish.transfer wish.count < 2 ^ 32 → SubmissionHasWidths job → IsFit v → IsSubmitted job (submit_with v wish frames)
 accepted_fits v job wish None last sector few named widths f = refused v job refusal.Buffers f
 accepted_fits v job wish (Some taken) last sector few named widths f =
     let k = f.0 in (
@@ -500,21 +504,21 @@ few_segments offers way = by_way (may_be_indirect way)
     by_way true = omega arith
     by_way false = omega arith
 
-wish_fits : (v : View) (job : Job) (wish : Wish) → (wish.count ≤ 7680 → named_of wish.transfer wish.count < 2 ^ 32) → (wish.sector < 2 ^ 64 → wish.count ≤ 7680 → JobHasWidths job) → v.last + 1 < 2 ^ 32 → IsFit v → IsSubmitted job (submit_one v (Some wish))
+wish_fits : (v : View) (job : Submission) (wish : Wish) → (wish.count ≤ 7680 → named_of wish.transfer wish.count < 2 ^ 32) → (wish.sector < 2 ^ 64 → wish.count ≤ 7680 → SubmissionHasWidths job) → v.last + 1 < 2 ^ 32 → IsFit v → IsSubmitted job (submit_one v (Some wish))
 wish_fits v job wish named widths last f =
     let sized = f.0.sized in
     let frames = taking (frames_taken wish.count) v.pool [] in
     let unless_full = if nat_le (entries_of v.shape.order) (unfinished v) then (Err refusal.Full, v) else submit_with v wish frames in
     let unless_long = if nat_lt (most_segments v.offers wish.transfer) (frames_for wish.count) then (Err refusal.Long, v) else unless_full in
-    let unless_past = if nat_lt v.sectors (wish.sector + named_of wish.transfer wish.count) then (Err refusal.Range, v) else unless_long in
-    either_submit job (is_write wish.transfer && v.read_only) (Err refusal.ReadOnly, v) unless_past (λ t. refused v job refusal.ReadOnly f)
-    (λ free. either_submit job (nat_lt v.sectors (wish.sector + named_of wish.transfer wish.count)) (Err refusal.Range, v) unless_long (λ t. refused v job refusal.Range f)
+    let unless_past = if nat_lt v.offers.sectors (wish.sector + named_of wish.transfer wish.count) then (Err refusal.Range, v) else unless_long in
+    either_submit job (is_write wish.transfer && v.offers.read_only) (Err refusal.ReadOnly, v) unless_past (λ t. refused v job refusal.ReadOnly f)
+    (λ free. either_submit job (nat_lt v.offers.sectors (wish.sector + named_of wish.transfer wish.count)) (Err refusal.Range, v) unless_long (λ t. refused v job refusal.Range f)
     (λ range. either_submit job (nat_lt (most_segments v.offers wish.transfer) (frames_for wish.count)) (Err refusal.Long, v) unless_full (λ t. refused v job refusal.Long f)
     (λ long. either_submit job (nat_le (entries_of v.shape.order) (unfinished v)) (Err refusal.Full, v) (submit_with v wish frames) (λ t. refused v job refusal.Full f)
     (λ t. accepted_fits v job wish frames last (low (named_of wish.transfer wish.count) range sized) (short long) (named (short long)) (widths (low (named_of wish.transfer wish.count) range sized) (short long)) f))))
   where
-    low : (n : ℕ) → nat_lt v.sectors (wish.sector + n) ≡ false → v.sectors < 2 ^ 64 → wish.sector < 2 ^ 64
-    low n range sized = let fits : wish.sector + n ≤ v.sectors = grind (arith, nat_tests) in omega arith
+    low : (n : ℕ) → nat_lt v.offers.sectors (wish.sector + n) ≡ false → v.offers.sectors < 2 ^ 64 → wish.sector < 2 ^ 64
+    low n range sized = let fits : wish.sector + n ≤ v.offers.sectors = grind (arith, nat_tests) in omega arith
 
     short : nat_lt (most_segments v.offers wish.transfer) (frames_for wish.count) ≡ false → wish.count ≤ 7680
     short long =
@@ -523,11 +527,11 @@ wish_fits v job wish named widths last f =
         omega arith
 
 -- where the back doesn't serve it, it is refused
-wished_fits : (v : View) (job : Job) (offered : Bool) (wish : Wish) → IsFit v → IsSubmitted job (submit_one v (Some wish)) → IsSubmitted job (submit_one v (wished offered wish))
+wished_fits : (v : View) (job : Submission) (offered : Bool) (wish : Wish) → IsFit v → IsSubmitted job (submit_one v (Some wish)) → IsSubmitted job (submit_one v (wished offered wish))
 wished_fits v job true wish f is = is
 wished_fits v job false wish f is = refused v job refusal.Unsupported f
 
-pub submit_fits : (v : View) (job : Job) → IsServable job → IsFit v → IsSubmitted job (submit_of v job)
+pub submit_fits : (v : View) (job : Submission) → IsServable job → IsFit v → IsSubmitted job (submit_of v job)
 submit_fits v job may f =
     let unless_unready = if not (is_ready v.stage) then (Err refusal.NotReady, v) else submit_one v (wish_of v.offers job) in
     either_submit job (v.last == 4294967295) (Err refusal.Spent, v) (if v.closing then (Err refusal.Closing, v) else unless_unready) (λ t. refused v job refusal.Spent f)
@@ -537,17 +541,17 @@ submit_fits v job may f =
     one_more : (last : ℕ) → last < 2 ^ 32 → (last == 4294967295) ≡ false → last + 1 < 2 ^ 32
     one_more last given unspent = grind (arith, nat_tests)
 
-    by_job : (job : Job) → IsServable job → v.last + 1 < 2 ^ 32 → IsSubmitted job (submit_one v (wish_of v.offers job))
-    by_job (jobs.Read sector count) may last =
-        wish_fits v (jobs.Read sector count) (record { sector = sector; count = count; transfer = transfer.Read }) (λ few. omega arith) (λ low few. (low, (omega arith, omega arith))) last f
-    by_job (jobs.Write sector count tag) may last =
-        wish_fits v (jobs.Write sector count tag) (record { sector = sector; count = count; transfer = transfer.Write tag }) (λ few. omega arith) (λ low few. (low, (let some = may.0 in omega arith, omega arith), may.1)) last f
-    by_job (jobs.Barrier sector count tag) may last =
+    by_job : (job : Submission) → IsServable job → v.last + 1 < 2 ^ 32 → IsSubmitted job (submit_one v (wish_of v.offers job))
+    by_job (submissions.Read sector count) may last =
+        wish_fits v (submissions.Read sector count) (record { sector = sector; count = count; transfer = transfer.Read }) (λ few. omega arith) (λ low few. (low, (omega arith, omega arith))) last f
+    by_job (submissions.Write sector count tag) may last =
+        wish_fits v (submissions.Write sector count tag) (record { sector = sector; count = count; transfer = transfer.Write tag }) (λ few. omega arith) (λ low few. (low, (let some = may.0 in omega arith, omega arith), may.1)) last f
+    by_job (submissions.Barrier sector count tag) may last =
         let wish : Wish = record { sector = sector; count = count; transfer = transfer.Barrier tag } in
-        wished_fits v (jobs.Barrier sector count tag) v.offers.barrier wish f (wish_fits v (jobs.Barrier sector count tag) wish (λ few. omega arith) (λ low few. (low, (let some = may.0 in omega arith, omega arith), may.1)) last f)
-    by_job jobs.Flush may last =
+        wished_fits v (submissions.Barrier sector count tag) v.offers.barrier wish f (wish_fits v (submissions.Barrier sector count tag) wish (λ few. omega arith) (λ low few. (low, (let some = may.0 in omega arith, omega arith), may.1)) last f)
+    by_job submissions.Flush may last =
         let wish : Wish = record { sector = 0; count = 0; transfer = transfer.Flush } in
-        wished_fits v jobs.Flush v.offers.flush wish f (wish_fits v jobs.Flush wish (λ few. omega arith) (λ low few. tt) last f)
-    by_job (jobs.Discard sector count) may last =
+        wished_fits v submissions.Flush v.offers.flush wish f (wish_fits v submissions.Flush wish (λ few. omega arith) (λ low few. tt) last f)
+    by_job (submissions.Discard sector count) may last =
         let wish : Wish = record { sector = sector; count = 0; transfer = transfer.Discard count } in
-        wished_fits v (jobs.Discard sector count) v.offers.discard wish f (wish_fits v (jobs.Discard sector count) wish (λ few. may.1) (λ low few. (low, (let some = may.0 in omega arith, may.1))) last f)
+        wished_fits v (submissions.Discard sector count) v.offers.discard wish f (wish_fits v (submissions.Discard sector count) wish (λ few. may.1) (λ low few. (low, (let some = may.0 in omega arith, may.1))) last f)

@@ -22,15 +22,15 @@ use Rattle.blk_front.specs.Ask as front_ask
 use Rattle.blk_front.specs.Step as front_step
 use Rattle.blk_front.specs.State.{enters}
 use Rattle.segment_list.specs.declared.verdict.DiskInfo.{DiskInfo}
-use Rattle.blk_back.specs.declared.told.Halt.{Halt}
-use Rattle.blk_back.specs.declared.told.Halt.TheVariants as halt
+use Rattle.blk_base.specs.declared.halt.Halt.{Halt}
+use Rattle.blk_base.specs.declared.halt.Halt.TheVariants as halt
 use Rattle.blk_back.specs.View as back
 use Rattle.blk_back.specs.Ask as back_ask
 use Rattle.blk_back.specs.Step as back_step
 use Rattle.blk_back.specs.Hands.{hands_of}
 use Rattle.split_model.specs.World.{World, start_of}
 use Rattle.split_model.specs.Safe.{IsSafe}
-use Rattle.split_model.specs.Shown.{back_lines, halt_line, halt_lines}
+use Rattle.split_model.specs.Shown.{back_lines, halt_lines}
 use Rattle.split_model.proofs.Showing.{IsFound, lines_are}
 use Rattle.split_model.specs.Happening.{Happening, FrontMoves, BackMoves, JobMoves, Negotiates, FrontEnters, BackAttaches, BackHalts, Submits, Pokes, OverwritesKey, Suspends, Dumps, happens, lines_at, lines_of, front_after, front_shows, back_after, back_shows, job_after, job_shows, front_turn, back_turn, job_turn}
 use Rattle.split_model.specs.Report.{report_of, ended_report_of}
@@ -169,7 +169,7 @@ halted_good w why said n =
 
 -- the domain is suspended: its line is one of the grammar, and a new back begins, or one whose front is gone
 gone_said : IsSaid (halt.Gone 6)
-gone_said = good (lines.Halt (halt_line (halt.Gone 6))) (omega arith) refl
+gone_said = good (lines.Halt (halt.Gone 6)) (omega arith) refl
 
 suspended_good : (w : World) → IsNumbered w → ShowsGood (lines_at w Suspends) (happens w Suspends)
 suspended_good w n =

@@ -16,7 +16,7 @@ use Rattle.blk_back.specs.declared.stage.Reply.{Reply}
 use Rattle.blk_front.specs.Ask as front_ask
 use Rattle.blk_back.specs.declared.stage.BackStage.{BackStage}
 use Rattle.blk_back.specs.declared.stage.BackStage.TheVariants as stage
-use Rattle.blk_back.specs.declared.told.Halt.{Halt}
+use Rattle.blk_base.specs.declared.halt.Halt.{Halt}
 use Rattle.blk_back.specs.View.{View}
 use Rattle.blk_back.specs.Ask as back_ask
 use Rattle.blk_back.specs.Ask.{next_reply}

@@ -3,7 +3,7 @@ use Rattle.std.specs.Prelude.{◌≡◌, ℕ, Bool, true, false, ◌||◌, nat_l
 use Rattle.blk_base.specs.Distance.{distance_of}
 use Rattle.ring_words.specs.Shape.{entries_of}
 use Rattle.blk_base.specs.declared.moves.Move.TheVariants as moves
-use Rattle.schedule_text.specs.declared.line.Halt.TheVariants as halts
+use Rattle.blk_base.specs.declared.halt.Halt.TheVariants as halts
 use Rattle.schedule_text.specs.declared.line.Line.{Line}
 use Rattle.schedule_text.specs.declared.line.Line.TheVariants as lines
 use Rattle.report_rules.specs.declared.overrun.Overrun.{Overrun}

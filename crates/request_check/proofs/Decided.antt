@@ -4,7 +4,7 @@ use Rattle.std.specs.Prelude.{Option, Some, None, is_none}
 use Rattle.std.specs.List.{list_all}
 use Rattle.std.specs.Map.{values_of}
 use Rattle.std.proofs.lemmas.Bool.Decides.{nat_tests}
-use Rattle.blk_base.specs.declared.config.Job.{Job}
+use Rattle.blk_base.specs.declared.config.Submission.{Submission}
 use Rattle.blk_base.specs.declared.operation.Status.{Status}
 use Rattle.blk_base.specs.declared.operation.Status.TheVariants as status
 use Rattle.schedule_text.specs.declared.line.Line.{Line}
@@ -86,15 +86,15 @@ module _ (g : Notes) (s : State) (d : Disk) (f : Follows g s d) where
   kept_of id = rw f.requests (open_request g d.requests id)
 
   -- ---- effects and services
-  end_by : (kind : Job → Bool) (id index : ℕ) (o : Option DiskRequest) → request_of d.requests id ≡ o → may_end_now kind s id index (open_in (g id) id o) ≡ may_end kind d id index o
+  end_by : (kind : Submission → Bool) (id index : ℕ) (o : Option DiskRequest) → request_of d.requests id ≡ o → may_end_now kind s id index (open_in (g id) id o) ≡ may_end kind d id index o
   end_by kind id index None found = refl
   end_by kind id index (Some r) found = by_stage (is_finished r.stage) refl
     where
       by_stage : (b : Bool) → is_finished r.stage ≡ b → may_end_now kind s id index (open_in (g id) id (Some r)) ≡ may_end kind d id index (Some r)
-      by_stage true is = rw is (sym (ap (λ (b : Bool). kind r.job && b) (shut_serves r d.done id index is) ∙ and_false (kind r.job)))
-      by_stage false is = rw is (ap (λ (b : Bool). kind r.job && b) (serve_same r (progress_of s.progress id) d.done id index (g id) (told_now id r found)))
+      by_stage true is = rw is (sym (ap (λ (b : Bool). kind r.submission && b) (shut_serves r d.done id index is) ∙ and_false (kind r.submission)))
+      by_stage false is = rw is (ap (λ (b : Bool). kind r.submission && b) (serve_same r (progress_of s.progress id) d.done id index (g id) (told_now id r found)))
 
-  end_same : (kind : Job → Bool) (id index : ℕ) → may_end_now kind s id index (open_of s.requests id) ≡ may_end kind d id index (request_of d.requests id)
+  end_same : (kind : Submission → Bool) (id index : ℕ) → may_end_now kind s id index (open_of s.requests id) ≡ may_end kind d id index (request_of d.requests id)
   end_same kind id index = ap (may_end_now kind s id index) (kept_of id) ∙ end_by kind id index (request_of d.requests id) refl
 
   fill_is : (id index : ℕ) (o : Option DiskRequest) → may_end is_write d id index o ≡ may_fill d id index o
@@ -106,10 +106,10 @@ module _ (g : Notes) (s : State) (d : Disk) (f : Follows g s d) where
   show_by id index words (Some r) found = by_stage (is_finished r.stage) refl
     where
       by_stage : (b : Bool) → is_finished r.stage ≡ b → may_show_now s id index words (open_in (g id) id (Some r)) ≡ may_show d id index words (Some r)
-      by_stage true is = rw is (sym (ap (λ (b : Bool). is_read r.job && b && may_hold (place_words d.first d.written r.job index) words) (shut_serves r d.done id index is)
-          ∙ ap (λ (b : Bool). b && may_hold (place_words d.first d.written r.job index) words) (and_false (is_read r.job))))
-      by_stage false is = rw is (ap (λ (b : Bool). is_read r.job && b && may_hold (words_in s.sectors (sector_of r.job + index)) words) (serve_same r (progress_of s.progress id) d.done id index (g id) (told_now id r found))
-          ∙ ap (λ (w : Option (List ℕ)). is_read r.job && may_serve d.done id r index && may_hold w words) (f.sectors.words (sector_of r.job + index)))
+      by_stage true is = rw is (sym (ap (λ (b : Bool). is_read r.submission && b && may_hold (place_words d.first d.written r.submission index) words) (shut_serves r d.done id index is)
+          ∙ ap (λ (b : Bool). b && may_hold (place_words d.first d.written r.submission index) words) (and_false (is_read r.submission))))
+      by_stage false is = rw is (ap (λ (b : Bool). is_read r.submission && b && may_hold (words_in s.sectors (sector_of r.submission + index)) words) (serve_same r (progress_of s.progress id) d.done id index (g id) (told_now id r found))
+          ∙ ap (λ (w : Option (List ℕ)). is_read r.submission && may_serve d.done id r index && may_hold w words) (f.sectors.words (sector_of r.submission + index)))
 
   show_same : (id index : ℕ) (words : List ℕ) → may_show_now s id index words (open_of s.requests id) ≡ may_show d id index words (request_of d.requests id)
   show_same id index words = ap (may_show_now s id index words) (kept_of id) ∙ show_by id index words (request_of d.requests id) refl
@@ -151,15 +151,15 @@ module _ (g : Notes) (s : State) (d : Disk) (f : Follows g s d) where
   shut_turn true b = refl
   shut_turn false b = refl
 
-  turn_by : (kind : Job → Bool) (id : ℕ) (o : Option DiskRequest) → request_of d.requests id ≡ o → is_in_turn kind s id (open_in (g id) id o) ≡ is_ordered_so kind d id o
+  turn_by : (kind : Submission → Bool) (id : ℕ) (o : Option DiskRequest) → request_of d.requests id ≡ o → is_in_turn kind s id (open_in (g id) id o) ≡ is_ordered_so kind d id o
   turn_by kind id None found = refl
   turn_by kind id (Some r) found = by_stage (is_finished r.stage) refl
     where
       by_stage : (b : Bool) → is_finished r.stage ≡ b → is_in_turn kind s id (open_in (g id) id (Some r)) ≡ is_ordered_so kind d id (Some r)
-      by_stage true is = rw is (rw (closed r.stage is) (sym (shut_turn (kind r.job) (is_in_order d id r))))
-      by_stage false is = rw is (ap (λ (b : Bool). not (kind r.job && is_open r.stage) || b) (all_same id (is_barrier r.job)))
+      by_stage true is = rw is (rw (closed r.stage is) (sym (shut_turn (kind r.submission) (is_in_order d id r))))
+      by_stage false is = rw is (ap (λ (b : Bool). not (kind r.submission && is_open r.stage) || b) (all_same id (is_barrier r.submission)))
 
-  turn_same : (kind : Job → Bool) (id : ℕ) → is_in_turn kind s id (open_of s.requests id) ≡ is_ordered_so kind d id (request_of d.requests id)
+  turn_same : (kind : Submission → Bool) (id : ℕ) → is_in_turn kind s id (open_of s.requests id) ≡ is_ordered_so kind d id (request_of d.requests id)
   turn_same kind id = ap (is_in_turn kind s id) (kept_of id) ∙ turn_by kind id (request_of d.requests id) refl
 
   pub barrier_same : (line : Line) → allows_barrier s line ≡ keeps_barrier d line

@@ -6,7 +6,7 @@ use Rattle.std.specs.BTreeMap.{is_at}
 use Rattle.std.specs.Ordering.{nat_cmp}
 use Rattle.std.proofs.lemmas.Bool.{cases_eq}
 use Rattle.std.proofs.lemmas.Option.{none-some}
-use Rattle.blk_base.specs.declared.config.Job.{Job}
+use Rattle.blk_base.specs.declared.config.Submission.{Submission}
 use Rattle.schedule_text.specs.declared.line.Line.{Line}
 use Rattle.plain_disk.specs.declared.request.DiskRequest.{DiskRequest}
 use Rattle.plain_disk.specs.declared.request.Written.{Written}
@@ -121,14 +121,14 @@ place_kept g s d id index r sectors written f found waits new words = record {
 
 -- ---- a request's fault or reply
 pub change_kept : (g : Notes) (s : State) (d : Disk) (id : ℕ) (r new : DiskRequest) (change : Progress → Progress) (sectors : Known) (written : List Written) → Follows g s d → request_of d.requests id ≡ Some r
-    → is_open r.stage ≡ true → new.job ≡ r.job → new.stage ≡ r.stage
+    → is_open r.stage ≡ true → new.submission ≡ r.submission → new.stage ≡ r.stage
     → (SameDoings (progress_of s.progress id) r d.done id → SameDoings (change (progress_of s.progress id)) new d.done id)
     → SameWords sectors d.first written
     → Follows g (record (with_progress s change id) { sectors = sectors }) (record d { requests = with_request d.requests id new; written = written })
-change_kept g s d id r new change sectors written f found waits job stage told words = record {
+change_kept g s d id r new change sectors written f found waits submission stage told words = record {
   submitted = f.submitted ∙ sym (length_request d.requests id new);
   few = rw (length_request d.requests id new) f.few;
-  requests = f.requests ∙ sym (opens_stay g d.requests id r new found job stage);
+  requests = f.requests ∙ sym (opens_stay g d.requests id r new found submission stage);
   noted = f.noted;
   unnoted = λ k none. ⊎_elim (λ here. absurd (not_none (request_of (with_request d.requests id new) k) new (rw here (request_same d.requests id r new found)) none)) (λ far. f.unnoted k (sym (request_other d.requests id k r new found far) ∙ none)) (cases_eq k id);
   frames = f.frames ∙ same_sum frames_of;
@@ -142,10 +142,10 @@ change_kept g s d id r new change sectors written f found waits job stage told w
     same : SameDoings (progress_of s.progress id) r d.done id
     same = told_at d (request_of d.requests id) r (progress_of s.progress id) id found (f.doings id) waits
 
-    same_sum : (h : Job → ℕ) → sum_by (held h) d.requests ≡ sum_by (held h) (with_request d.requests id new)
+    same_sum : (h : Submission → ℕ) → sum_by (held h) d.requests ≡ sum_by (held h) (with_request d.requests id new)
     same_sum h =
         let both : sum_by (held h) (with_request d.requests id new) + held h r ≡ sum_by (held h) d.requests + held h new = held_with h d.requests id r new found in
-        let one : held h new ≡ held h r = rw (job, stage) refl in
+        let one : held h new ≡ held h r = rw (submission, stage) refl in
         omega arith
 
     here_it : IsTold (request_of (with_request d.requests id new) id) (progress_of (changed change s.progress id) id) d.done id
@@ -177,7 +177,7 @@ told_further g s d id r stage f found waits told still = record {
   sectors = f.sectors;
 }
   where
-    same_sum : (h : Job → ℕ) → sum_by (held h) d.requests ≡ sum_by (held h) (with_request d.requests id (staged r stage))
+    same_sum : (h : Submission → ℕ) → sum_by (held h) d.requests ≡ sum_by (held h) (with_request d.requests id (staged r stage))
     same_sum h =
         let both : sum_by (held h) (with_request d.requests id (staged r stage)) + held h r ≡ sum_by (held h) d.requests + held h (staged r stage) = held_with h d.requests id r (staged r stage) found in
         let one : held h (staged r stage) ≡ held h r = rw (still, waits) refl in
@@ -193,7 +193,7 @@ told_further g s d id r stage f found waits told still = record {
     elsewhere k far = rw (request_other d.requests id k r (staged r stage) found far) (f.doings k)
 
 told_last : (g : Notes) (s : State) (d : Disk) (id : ℕ) (r : DiskRequest) (stage : RequestStage) → Follows g s d → request_of d.requests id ≡ Some r → is_finished r.stage ≡ false → is_open stage ≡ false → is_finished stage ≡ true
-    → Follows g (without s id r.job) (record d { requests = with_request d.requests id (staged r stage) })
+    → Follows g (without s id r.submission) (record d { requests = with_request d.requests id (staged r stage) })
 told_last g s d id r stage f found waits told ends = record {
   submitted = f.submitted ∙ sym (length_request d.requests id (staged r stage));
   few = rw (length_request d.requests id (staged r stage)) f.few;
@@ -201,18 +201,18 @@ told_last g s d id r stage f found waits told ends = record {
   noted = f.noted;
   unnoted = λ k none. ⊎_elim (λ here. absurd (not_none (request_of (with_request d.requests id (staged r stage)) k) (staged r stage) (rw here (request_same d.requests id r (staged r stage) found)) none)) (λ far. f.unnoted k (sym (request_other d.requests id k r (staged r stage) found far) ∙ none)) (cases_eq k id);
   frames = less frames_of s.frames f.frames;
-  room = (let room : s.frames ≤ 1000 = f.room in let less : s.frames - frames_of r.job ≤ 1000 = omega arith in less);
+  room = (let room : s.frames ≤ 1000 = f.room in let less : s.frames - frames_of r.submission ≤ 1000 = omega arith in less);
   barriers = less barriers_of s.barriers f.barriers;
-  most = rw (length_request d.requests id (staged r stage)) (let most : s.barriers ≤ length d.requests = f.most in let less : s.barriers - barriers_of r.job ≤ length d.requests = omega arith in less);
+  most = rw (length_request d.requests id (staged r stage)) (let most : s.barriers ≤ length d.requests = f.most in let less : s.barriers - barriers_of r.submission ≤ length d.requests = omega arith in less);
   doings = λ k. ⊎_elim (λ here. at_it k here) (λ far. elsewhere k far) (cases_eq k id);
   sectors = f.sectors;
 }
   where
-    less : (h : Job → ℕ) (n : ℕ) → n ≡ sum_by (held h) d.requests → n - h r.job ≡ sum_by (held h) (with_request d.requests id (staged r stage))
+    less : (h : Submission → ℕ) (n : ℕ) → n ≡ sum_by (held h) d.requests → n - h r.submission ≡ sum_by (held h) (with_request d.requests id (staged r stage))
     less h n is =
         let both : sum_by (held h) (with_request d.requests id (staged r stage)) + held h r ≡ sum_by (held h) d.requests + held h (staged r stage) = held_with h d.requests id r (staged r stage) found in
         let one : held h (staged r stage) ≡ 0 = rw ends refl in
-        let other : held h r ≡ h r.job = rw waits refl in
+        let other : held h r ≡ h r.submission = rw waits refl in
         omega arith
 
     here_it : IsTold (request_of (with_request d.requests id (staged r stage)) id) (progress_of (remove_entry (is_at (nat_cmp id)) s.progress) id) d.done id

@@ -51,11 +51,11 @@ reply_front s id status (Some o) = (refl, refl)
 
 answer_front : (s : State) (id : ℕ) (status : Status) (o : Option Open) → IsSameFront (answered s id status o) s
 answer_front s id status None = (refl, refl)
-answer_front s id status (Some o) = by_end s id o (told_stage o.job status) (is_finished (told_stage o.job status)) refl
+answer_front s id status (Some o) = by_end s id o (told_stage o.submission status) (is_finished (told_stage o.submission status)) refl
 
 tell_front : (s : State) (id index : ℕ) (o : Option Open) → IsSameFront (told s id index o) s
 tell_front s id index None = (refl, refl)
-tell_front s id index (Some o) = by_end s id o (next_stage o.job index) (is_finished (next_stage o.job index)) refl
+tell_front s id index (Some o) = by_end s id o (next_stage o.submission index) (is_finished (next_stage o.submission index)) refl
 
 step_front : (s : State) (line : Line) → IsSameFront (stepped s line) s
 step_front s (lines.Effect id index) = fill_front s id index (open_of s.requests id)

@@ -3,8 +3,8 @@ use Rattle.std.proofs.Common.{◌≡◌, ℕ, ◌+◌, ◌<◌, ◌≤◌, ◌==
 use Rattle.std.specs.Prelude.{Option, Some, None, is_none}
 use Rattle.std.proofs.lemmas.Bool.Decides.{nat_tests}
 use Rattle.std.proofs.lemmas.Option.{none-some, same_Some, cond_some}
-use Rattle.blk_base.specs.declared.config.Job.{Job}
-use Rattle.blk_base.specs.declared.config.Job.TheVariants as jobs
+use Rattle.blk_base.specs.declared.config.Submission.{Submission}
+use Rattle.blk_base.specs.declared.config.Submission.TheVariants as submissions
 use Rattle.blk_base.specs.declared.operation.Status.{Status}
 use Rattle.schedule_text.specs.declared.line.Line.{Line}
 use Rattle.schedule_text.specs.declared.line.Line.TheVariants as lines
@@ -29,7 +29,7 @@ use Rattle.request_check.proofs.NewNotes.{put, show_kept, submit_kept, epoch_kep
 
 -- a submission is within the limits
 abbrev pub FitsLimits : Disk → Line → Type 0
-FitsLimits d (lines.Submit id job) = (length d.requests < 4294967295) × (sum_by (held frames_of) d.requests + frames_of job ≤ 1000)
+FitsLimits d (lines.Submit id submission) = (length d.requests < 4294967295) × (sum_by (held frames_of) d.requests + frames_of submission ≤ 1000)
 FitsLimits d line = Unit {0}
 
 -- the state after the line, but for what it shows of the front, follows the disk
@@ -58,14 +58,14 @@ open_undone true false c e n h = absurd (cc)
 open_undone false b c e n h = absurd (cc)
 
 serves : (done : List Place) (id : ℕ) (r : DiskRequest) (index : ℕ) → may_serve done id r index ≡ true → (is_open r.stage ≡ true) × (is_done done id index ≡ false)
-serves done id r index h = open_undone (is_open r.stage) (is_none r.reply) (not r.faulted) (nat_lt index (places_of r.job)) (is_done done id index) h
+serves done id r index h = open_undone (is_open r.stage) (is_none r.reply) (not r.faulted) (nat_lt index (places_of r.submission)) (is_done done id index) h
 
-zeros_left : (job : Job) → is_discard job ≡ true → Some (filling job 0) ≡ words_left (discarded job false)
-zeros_left (jobs.Read sector count) is = absurd (cc)
-zeros_left (jobs.Write sector count tag) is = absurd (cc)
-zeros_left (jobs.Barrier sector count tag) is = absurd (cc)
-zeros_left jobs.Flush is = absurd (cc)
-zeros_left (jobs.Discard sector count) is = refl
+zeros_left : (submission : Submission) → is_discard submission ≡ true → Some (filling submission 0) ≡ words_left (discarded submission false)
+zeros_left (submissions.Read sector count) is = absurd (cc)
+zeros_left (submissions.Write sector count tag) is = absurd (cc)
+zeros_left (submissions.Barrier sector count tag) is = absurd (cc)
+zeros_left submissions.Flush is = absurd (cc)
+zeros_left (submissions.Discard sector count) is = refl
 
 moved : (g : Notes) (s : State) (d e : Disk) → d ≡ e → Follows g s d → HasFollowed s e
 moved g s d e same f = (g, subst (λ (x : Disk). Follows g s x) same f)
@@ -74,47 +74,47 @@ module _ (g : Notes) (s : State) (d e : Disk) (f : Follows g s d) where
   on_effect : (id index : ℕ) (o : Option DiskRequest) → request_of d.requests id ≡ o → effect_of d id index o ≡ Some e → HasFollowed (filled s id index (open_of s.requests id)) e
   on_effect id index None found is = absurd (none-some e is)
   on_effect id index (Some r) found is =
-      let both = cond_some (is_write r.job && may_serve d.done id r index && is_in_order d id r) (served d (place id index) (one_sector r.job index (Some (filling r.job index)))) e is in
-      let at = serves d.done id r index (middle_of (is_write r.job) (may_serve d.done id r index) (is_in_order d id r) both.0) in
-      rw (open_found g s d id r f found (unfinished r.stage at.0)) (moved g _ _ e both.1 (place_kept g s d id index r _ _ f found at.0 at.1 (same_single s.sectors d.first d.written r.job index (Some (filling r.job index)) f.sectors)))
+      let both = cond_some (is_write r.submission && may_serve d.done id r index && is_in_order d id r) (served d (place id index) (one_sector r.submission index (Some (filling r.submission index)))) e is in
+      let at = serves d.done id r index (middle_of (is_write r.submission) (may_serve d.done id r index) (is_in_order d id r) both.0) in
+      rw (open_found g s d id r f found (unfinished r.stage at.0)) (moved g _ _ e both.1 (place_kept g s d id index r _ _ f found at.0 at.1 (same_single s.sectors d.first d.written r.submission index (Some (filling r.submission index)) f.sectors)))
 
   on_read : (id index : ℕ) (words : List ℕ) (o : Option DiskRequest) → request_of d.requests id ≡ o → read_of d id index words o ≡ Some e → HasFollowed (shown s id index words (open_of s.requests id)) e
   on_read id index words None found is = absurd (none-some e is)
   on_read id index words (Some r) found is =
-      let both = cond_some (is_read r.job && may_serve d.done id r index && may_hold (place_words d.first d.written r.job index) words)
-      (record (served d (place id index) (one_sector r.job index (Some words))) { noted = d.noted ++ record { id = id; index = index; words = words } ∷ [] }) e is in
-      let at = serves d.done id r index (middle_of (is_read r.job) (may_serve d.done id r index) (may_hold (place_words d.first d.written r.job index) words) both.0) in
-      rw (open_found g s d id r f found (unfinished r.stage at.0)) (moved (put g id (with_entry (g id) index words)) _ _ e both.1 (show_kept g s d id index words r _ _ f found at.0 at.1 (same_single s.sectors d.first d.written r.job index (Some words) f.sectors)))
+      let both = cond_some (is_read r.submission && may_serve d.done id r index && may_hold (place_words d.first d.written r.submission index) words)
+      (record (served d (place id index) (one_sector r.submission index (Some words))) { noted = d.noted ++ record { id = id; index = index; words = words } ∷ [] }) e is in
+      let at = serves d.done id r index (middle_of (is_read r.submission) (may_serve d.done id r index) (may_hold (place_words d.first d.written r.submission index) words) both.0) in
+      rw (open_found g s d id r f found (unfinished r.stage at.0)) (moved (put g id (with_entry (g id) index words)) _ _ e both.1 (show_kept g s d id index words r _ _ f found at.0 at.1 (same_single s.sectors d.first d.written r.submission index (Some words) f.sectors)))
 
   on_flush : (id : ℕ) (o : Option DiskRequest) → request_of d.requests id ≡ o → flushed_of d id o ≡ Some e → HasFollowed (flushed s id (open_of s.requests id)) e
   on_flush id None found is = absurd (none-some e is)
   on_flush id (Some r) found is =
-      let both = cond_some (is_flush r.job && may_serve d.done id r 0) (record d { done = d.done ++ place id 0 ∷ [] }) e is in
-      let at = serves d.done id r 0 (second_of (is_flush r.job) _ both.0) in
+      let both = cond_some (is_flush r.submission && may_serve d.done id r 0) (record d { done = d.done ++ place id 0 ∷ [] }) e is in
+      let at = serves d.done id r 0 (second_of (is_flush r.submission) _ both.0) in
       rw (open_found g s d id r f found (unfinished r.stage at.0)) (moved g _ _ e both.1 (place_kept g s d id 0 r s.sectors d.written f found at.0 at.1 f.sectors))
 
   on_trim : (id : ℕ) (o : Option DiskRequest) → request_of d.requests id ≡ o → trimmed_of d id o ≡ Some e → HasFollowed (trimmed s id (open_of s.requests id)) e
   on_trim id None found is = absurd (none-some e is)
   on_trim id (Some r) found is =
-      let both = cond_some (is_discard r.job && may_serve d.done id r 0 && is_in_order d id r) (served d (place id 0) (all_sectors r.job (Some (filling r.job 0)))) e is in
-      let at = serves d.done id r 0 (middle_of (is_discard r.job) (may_serve d.done id r 0) (is_in_order d id r) both.0) in
-      rw (open_found g s d id r f found (unfinished r.stage at.0)) (moved g _ _ e both.1 (place_kept g s d id 0 r _ _ f found at.0 at.1 (same_range s.sectors d.first d.written r.job false (Some (filling r.job 0)) (zeros_left r.job (first_of (is_discard r.job) (may_serve d.done id r 0) (first_of (is_discard r.job && may_serve d.done id r 0) (is_in_order d id r) both.0))) f.sectors)))
+      let both = cond_some (is_discard r.submission && may_serve d.done id r 0 && is_in_order d id r) (served d (place id 0) (all_sectors r.submission (Some (filling r.submission 0)))) e is in
+      let at = serves d.done id r 0 (middle_of (is_discard r.submission) (may_serve d.done id r 0) (is_in_order d id r) both.0) in
+      rw (open_found g s d id r f found (unfinished r.stage at.0)) (moved g _ _ e both.1 (place_kept g s d id 0 r _ _ f found at.0 at.1 (same_range s.sectors d.first d.written r.submission false (Some (filling r.submission 0)) (zeros_left r.submission (first_of (is_discard r.submission) (may_serve d.done id r 0) (first_of (is_discard r.submission && may_serve d.done id r 0) (is_in_order d id r) both.0))) f.sectors)))
 
-  lost_words : (job : Job) (index : ℕ) → SameWords (lost s.sectors job index) d.first (lost_of d.written job index)
-  lost_words job index = by_kind (is_write job) refl (is_discard job) refl
+  lost_words : (submission : Submission) (index : ℕ) → SameWords (lost s.sectors submission index) d.first (lost_of d.written submission index)
+  lost_words submission index = by_kind (is_write submission) refl (is_discard submission) refl
     where
-      by_kind : (w : Bool) → is_write job ≡ w → (t : Bool) → is_discard job ≡ t → SameWords (lost s.sectors job index) d.first (lost_of d.written job index)
-      by_kind true is t so = rw is (same_single s.sectors d.first d.written job index None f.sectors)
-      by_kind false is true so = rw (is, so) (same_range s.sectors d.first d.written job true None refl f.sectors)
+      by_kind : (w : Bool) → is_write submission ≡ w → (t : Bool) → is_discard submission ≡ t → SameWords (lost s.sectors submission index) d.first (lost_of d.written submission index)
+      by_kind true is t so = rw is (same_single s.sectors d.first d.written submission index None f.sectors)
+      by_kind false is true so = rw (is, so) (same_range s.sectors d.first d.written submission true None refl f.sectors)
       by_kind false is false so = rw (is, so) f.sectors
 
   on_fault : (id index : ℕ) (o : Option DiskRequest) → request_of d.requests id ≡ o → fault_of d id index o ≡ Some e → HasFollowed (failed s id index (open_of s.requests id)) e
   on_fault id index None found is = absurd (none-some e is)
   on_fault id index (Some r) found is =
-      let both = cond_some (may_serve d.done id r index && (not (is_ordered r.job) || is_in_order d id r)) (record d { requests = with_request d.requests id (record r { faulted = true }); written = lost_of d.written r.job index }) e is in
-      let at = serves d.done id r index (first_of (may_serve d.done id r index) (not (is_ordered r.job) || is_in_order d id r) both.0) in
-      rw (open_found g s d id r f found (unfinished r.stage at.0)) (moved g _ _ e both.1 (change_kept g s d id r (record r { faulted = true }) with_fault (lost s.sectors r.job index) (lost_of d.written r.job index) f found at.0 refl refl
-      (λ t. record { faulted = refl; reply = t.reply; places = t.places; count = t.count }) (lost_words r.job index)))
+      let both = cond_some (may_serve d.done id r index && (not (is_ordered r.submission) || is_in_order d id r)) (record d { requests = with_request d.requests id (record r { faulted = true }); written = lost_of d.written r.submission index }) e is in
+      let at = serves d.done id r index (first_of (may_serve d.done id r index) (not (is_ordered r.submission) || is_in_order d id r) both.0) in
+      rw (open_found g s d id r f found (unfinished r.stage at.0)) (moved g _ _ e both.1 (change_kept g s d id r (record r { faulted = true }) with_fault (lost s.sectors r.submission index) (lost_of d.written r.submission index) f found at.0 refl refl
+      (λ t. record { faulted = refl; reply = t.reply; places = t.places; count = t.count }) (lost_words r.submission index)))
 
   on_reply : (id : ℕ) (status : Status) (o : Option DiskRequest) → request_of d.requests id ≡ o → replied_of d id status o ≡ Some e → HasFollowed (replied s id status (open_of s.requests id)) e
   on_reply id status None found is = absurd (none-some e is)
@@ -124,17 +124,17 @@ module _ (g : Notes) (s : State) (d e : Disk) (f : Follows g s d) where
       rw (open_found g s d id r f found (unfinished r.stage waits)) (moved g _ _ e both.1 (change_kept g s d id r (record r { reply = Some status }) (with_reply status) s.sectors d.written f found waits refl refl
       (λ t. record { faulted = t.faulted; reply = refl; places = t.places; count = t.count }) f.sectors))
 
-  shut_told : (job : Job) (status : Status) → is_open (told_stage job status) ≡ false
-  shut_told job status = by_kind (is_read job && is_okay status) refl
+  shut_told : (submission : Submission) (status : Status) → is_open (told_stage submission status) ≡ false
+  shut_told submission status = by_kind (is_read submission && is_okay status) refl
     where
-      by_kind : (b : Bool) → (is_read job && is_okay status) ≡ b → is_open (told_stage job status) ≡ false
+      by_kind : (b : Bool) → (is_read submission && is_okay status) ≡ b → is_open (told_stage submission status) ≡ false
       by_kind true is = rw is refl
       by_kind false is = rw is refl
 
-  shut_next : (job : Job) (index : ℕ) → is_open (next_stage job index) ≡ false
-  shut_next job index = by_place (nat_lt (index + 1) (places_of job)) refl
+  shut_next : (submission : Submission) (index : ℕ) → is_open (next_stage submission index) ≡ false
+  shut_next submission index = by_place (nat_lt (index + 1) (places_of submission)) refl
     where
-      by_place : (b : Bool) → nat_lt (index + 1) (places_of job) ≡ b → is_open (next_stage job index) ≡ false
+      by_place : (b : Bool) → nat_lt (index + 1) (places_of submission) ≡ b → is_open (next_stage submission index) ≡ false
       by_place true is = rw is refl
       by_place false is = rw is refl
 
@@ -146,26 +146,26 @@ module _ (g : Notes) (s : State) (d e : Disk) (f : Follows g s d) where
   on_answer : (id : ℕ) (status : Status) (o : Option DiskRequest) → request_of d.requests id ≡ o → answered_of d id status o ≡ Some e → HasFollowed (answered s id status (open_of s.requests id)) e
   on_answer id status None found is = absurd (none-some e is)
   on_answer id status (Some r) found is =
-      let both = cond_some (is_open r.stage && is_status r.reply status) (record d { requests = with_request d.requests id (record r { stage = told_stage r.job status }) }) e is in
+      let both = cond_some (is_open r.stage && is_status r.reply status) (record d { requests = with_request d.requests id (record r { stage = told_stage r.submission status }) }) e is in
       let waits : is_finished r.stage ≡ false = unfinished r.stage (first_of (is_open r.stage) _ both.0) in
-      rw (open_found g s d id r f found waits) (moved g _ _ e both.1 (told_kept g s d id r (told_stage r.job status) f found waits (shut_told r.job status)))
+      rw (open_found g s d id r f found waits) (moved g _ _ e both.1 (told_kept g s d id r (told_stage r.submission status) f found waits (shut_told r.submission status)))
 
   on_data : (id index : ℕ) (words : List ℕ) (o : Option DiskRequest) → request_of d.requests id ≡ o → data_of d id index words o ≡ Some e → HasFollowed (told s id index (open_of s.requests id)) e
   on_data id index words None found is = absurd (none-some e is)
   on_data id index words (Some r) found is =
-      let both = cond_some (is_next r.stage index && are_noted (noted_at d.noted id index) words) (record d { requests = with_request d.requests id (record r { stage = next_stage r.job index }) }) e is in
+      let both = cond_some (is_next r.stage index && are_noted (noted_at d.noted id index) words) (record d { requests = with_request d.requests id (record r { stage = next_stage r.submission index }) }) e is in
       let waits : is_finished r.stage ≡ false = told_next r.stage index (first_of (is_next r.stage index) _ both.0) in
-      rw (open_found g s d id r f found waits) (moved g _ _ e both.1 (told_kept g s d id r (next_stage r.job index) f found waits (shut_next r.job index)))
+      rw (open_found g s d id r f found waits) (moved g _ _ e both.1 (told_kept g s d id r (next_stage r.submission index) f found waits (shut_next r.submission index)))
 
-  on_submit : (id : ℕ) (job : Job) → (b : Bool) → (id == length d.requests + 1) ≡ b → submitted_of d id job ≡ Some e → FitsLimits d (lines.Submit id job) → HasFollowed (submitted_to s id job) e
-  on_submit id job false test is fits = absurd (none-some e (rw test at is))
-  on_submit id job true test is fits =
+  on_submit : (id : ℕ) (submission : Submission) → (b : Bool) → (id == length d.requests + 1) ≡ b → submitted_of d id submission ≡ Some e → FitsLimits d (lines.Submit id submission) → HasFollowed (submitted_to s id submission) e
+  on_submit id submission false test is fits = absurd (none-some e (rw test at is))
+  on_submit id submission true test is fits =
       let at : id ≡ length d.requests + 1 = grind (arith, nat_tests) in
-      let same : record d { requests = d.requests ++ requests.opened job ∷ [] } ≡ e = same_Some _ _ (rw test at is) in
-      rw at (moved (put g (length d.requests + 1) []) _ _ e same (submit_kept g s d job f fits.0 fits.1))
+      let same : record d { requests = d.requests ++ requests.opened submission ∷ [] } ≡ e = same_Some _ _ (rw test at is) in
+      rw at (moved (put g (length d.requests + 1) []) _ _ e same (submit_kept g s d submission f fits.0 fits.1))
 
   pub line_kept : (line : Line) → step d line ≡ Some e → FitsLimits d line → HasFollowed (stepped s line) e
-  line_kept (lines.Submit id job) is fits = on_submit id job (id == length d.requests + 1) refl is fits
+  line_kept (lines.Submit id submission) is fits = on_submit id submission (id == length d.requests + 1) refl is fits
   line_kept (lines.Effect id index) is fits = on_effect id index (request_of d.requests id) refl is
   line_kept (lines.EffectRead id index words) is fits = on_read id index words (request_of d.requests id) refl is
   line_kept (lines.Flushed id) is fits = on_flush id (request_of d.requests id) refl is

@@ -8,7 +8,7 @@ use Rattle.std.proofs.lemmas.Bool.{cases_eq}
 use Rattle.std.proofs.lemmas.Bool.Decides.{nat_tests}
 use Rattle.std.proofs.lemmas.List.{length-append}
 use Rattle.std.proofs.lemmas.List.Sums.{fold-append}
-use Rattle.blk_base.specs.declared.config.Job.{Job}
+use Rattle.blk_base.specs.declared.config.Submission.{Submission}
 use Rattle.plain_disk.specs.declared.request.DiskRequest.{DiskRequest}
 use Rattle.plain_disk.specs.declared.request.Noted.{Noted}
 use Rattle.plain_disk.specs.declared.request.Written.{Written}
@@ -101,56 +101,56 @@ show_kept g s d id index words r sectors written f found waits new known =
 capped_small : (n : ℕ) → n ≤ 18446744073709551615 → capped n ≡ n
 capped_small n small = omega arith
 
-one_or_none : (job : Job) → barriers_of job ≤ 1
-one_or_none job = by_kind (requests.is_barrier job) refl
+one_or_none : (submission : Submission) → barriers_of submission ≤ 1
+one_or_none submission = by_kind (requests.is_barrier submission) refl
   where
-    by_kind : (b : Bool) → requests.is_barrier job ≡ b → barriers_of job ≤ 1
+    by_kind : (b : Bool) → requests.is_barrier submission ≡ b → barriers_of submission ≤ 1
     by_kind true is = rw is (omega arith)
     by_kind false is = rw is (omega arith)
 
-pub submit_kept : (g : Notes) (s : State) (d : Disk) (job : Job) → Follows g s d → length d.requests < 4294967295 → sum_by (held frames_of) d.requests + frames_of job ≤ 1000
-    → Follows (put g (length d.requests + 1) []) (submitted_to s (length d.requests + 1) job) (record d { requests = d.requests ++ requests.opened job ∷ [] })
-submit_kept g s d job f left room = record {
-  submitted = sym (length-append d.requests (requests.opened job ∷ []));
-  few = (let more : length (d.requests ++ requests.opened job ∷ []) ≡ length d.requests + 1 = length-append d.requests (requests.opened job ∷ []) in omega arith);
-  requests = rw f.requests (sym (opens_add g (put g (length d.requests + 1) []) d.requests (requests.opened job) refl (λ k far. put_other g (length d.requests + 1) [] k far)
-      ∙ ap (λ (notes : List (ℕ × List ℕ)). insert_entry nat_cmp (opens g 1 d.requests) (length d.requests + 1) (open_as (length d.requests + 1) (requests.opened job) notes)) (put_same g (length d.requests + 1) [])));
+pub submit_kept : (g : Notes) (s : State) (d : Disk) (submission : Submission) → Follows g s d → length d.requests < 4294967295 → sum_by (held frames_of) d.requests + frames_of submission ≤ 1000
+    → Follows (put g (length d.requests + 1) []) (submitted_to s (length d.requests + 1) submission) (record d { requests = d.requests ++ requests.opened submission ∷ [] })
+submit_kept g s d submission f left room = record {
+  submitted = sym (length-append d.requests (requests.opened submission ∷ []));
+  few = (let more : length (d.requests ++ requests.opened submission ∷ []) ≡ length d.requests + 1 = length-append d.requests (requests.opened submission ∷ []) in omega arith);
+  requests = rw f.requests (sym (opens_add g (put g (length d.requests + 1) []) d.requests (requests.opened submission) refl (λ k far. put_other g (length d.requests + 1) [] k far)
+      ∙ ap (λ (notes : List (ℕ × List ℕ)). insert_entry nat_cmp (opens g 1 d.requests) (length d.requests + 1) (open_as (length d.requests + 1) (requests.opened submission) notes)) (put_same g (length d.requests + 1) [])));
   noted = λ k j. ⊎_elim (λ here. new_noted k j here) (λ far. rw (put_other g (length d.requests + 1) [] k far) (f.noted k j)) (cases_eq k (length d.requests + 1));
-  unnoted = λ k none j. ⊎_elim (λ here. absurd (not_none (request_of (d.requests ++ requests.opened job ∷ []) k) (requests.opened job) (rw here (request_new d.requests (requests.opened job))) none))
-      (λ far. f.unnoted k (sym (request_old d.requests (requests.opened job) k far) ∙ none) j) (cases_eq k (length d.requests + 1));
+  unnoted = λ k none j. ⊎_elim (λ here. absurd (not_none (request_of (d.requests ++ requests.opened submission ∷ []) k) (requests.opened submission) (rw here (request_new d.requests (requests.opened submission))) none))
+      (λ far. f.unnoted k (sym (request_old d.requests (requests.opened submission) k far) ∙ none) j) (cases_eq k (length d.requests + 1));
   frames = frames_so;
-  room = (let now : capped (s.frames + frames_of job) ≡ sum_by (held frames_of) d.requests + frames_of job = frames_now in omega arith);
+  room = (let now : capped (s.frames + frames_of submission) ≡ sum_by (held frames_of) d.requests + frames_of submission = frames_now in omega arith);
   barriers = barriers_so;
   most = most_so;
-  doings = λ k. ⊎_elim (λ here. new_doings k here) (λ far. rw (request_old d.requests (requests.opened job) k far) (f.doings k)) (cases_eq k (length d.requests + 1));
+  doings = λ k. ⊎_elim (λ here. new_doings k here) (λ far. rw (request_old d.requests (requests.opened submission) k far) (f.doings k)) (cases_eq k (length d.requests + 1));
   sectors = f.sectors;
 }
   where
-    frames_now : capped (s.frames + frames_of job) ≡ sum_by (held frames_of) d.requests + frames_of job
+    frames_now : capped (s.frames + frames_of submission) ≡ sum_by (held frames_of) d.requests + frames_of submission
     frames_now =
         let is : s.frames ≡ sum_by (held frames_of) d.requests = f.frames in
-        let small : s.frames + frames_of job ≤ 18446744073709551615 = omega arith in
-        capped_small (s.frames + frames_of job) small ∙ ap (λ (n : ℕ). n + frames_of job) is
+        let small : s.frames + frames_of submission ≤ 18446744073709551615 = omega arith in
+        capped_small (s.frames + frames_of submission) small ∙ ap (λ (n : ℕ). n + frames_of submission) is
 
-    frames_so : capped (s.frames + frames_of job) ≡ sum_by (held frames_of) (d.requests ++ requests.opened job ∷ [])
-    frames_so = frames_now ∙ sym (held_more frames_of d.requests (requests.opened job) refl)
+    frames_so : capped (s.frames + frames_of submission) ≡ sum_by (held frames_of) (d.requests ++ requests.opened submission ∷ [])
+    frames_so = frames_now ∙ sym (held_more frames_of d.requests (requests.opened submission) refl)
 
-    barriers_now : capped (s.barriers + barriers_of job) ≡ s.barriers + barriers_of job
+    barriers_now : capped (s.barriers + barriers_of submission) ≡ s.barriers + barriers_of submission
     barriers_now =
-        let one : barriers_of job ≤ 1 = one_or_none job in
+        let one : barriers_of submission ≤ 1 = one_or_none submission in
         let most : s.barriers ≤ length d.requests = f.most in
-        let small : s.barriers + barriers_of job ≤ 18446744073709551615 = omega arith in
-        capped_small (s.barriers + barriers_of job) small
+        let small : s.barriers + barriers_of submission ≤ 18446744073709551615 = omega arith in
+        capped_small (s.barriers + barriers_of submission) small
 
-    barriers_so : capped (s.barriers + barriers_of job) ≡ sum_by (held barriers_of) (d.requests ++ requests.opened job ∷ [])
-    barriers_so = barriers_now ∙ ap (λ (n : ℕ). n + barriers_of job) f.barriers ∙ sym (held_more barriers_of d.requests (requests.opened job) refl)
+    barriers_so : capped (s.barriers + barriers_of submission) ≡ sum_by (held barriers_of) (d.requests ++ requests.opened submission ∷ [])
+    barriers_so = barriers_now ∙ ap (λ (n : ℕ). n + barriers_of submission) f.barriers ∙ sym (held_more barriers_of d.requests (requests.opened submission) refl)
 
-    most_so : capped (s.barriers + barriers_of job) ≤ length (d.requests ++ requests.opened job ∷ [])
+    most_so : capped (s.barriers + barriers_of submission) ≤ length (d.requests ++ requests.opened submission ∷ [])
     most_so =
-        let one : barriers_of job ≤ 1 = one_or_none job in
+        let one : barriers_of submission ≤ 1 = one_or_none submission in
         let most : s.barriers ≤ length d.requests = f.most in
-        let more : length (d.requests ++ requests.opened job ∷ []) ≡ length d.requests + 1 = length-append d.requests (requests.opened job ∷ []) in
-        let now : capped (s.barriers + barriers_of job) ≡ s.barriers + barriers_of job = barriers_now in
+        let more : length (d.requests ++ requests.opened submission ∷ []) ≡ length d.requests + 1 = length-append d.requests (requests.opened submission ∷ []) in
+        let now : capped (s.barriers + barriers_of submission) ≡ s.barriers + barriers_of submission = barriers_now in
         omega arith
 
     new_noted : (k j : ℕ) → k ≡ length d.requests + 1 → entry_at (put g (length d.requests + 1) [] k) j ≡ noted_at d.noted k j
@@ -160,10 +160,10 @@ submit_kept g s d job f left room = record {
     none_before None is t = t
     none_before (Some r) is t = absurd (cc)
 
-    new_doings : (k : ℕ) → k ≡ length d.requests + 1 → IsTold (request_of (d.requests ++ requests.opened job ∷ []) k) (progress_of s.progress k) d.done k
+    new_doings : (k : ℕ) → k ≡ length d.requests + 1 → IsTold (request_of (d.requests ++ requests.opened submission ∷ []) k) (progress_of s.progress k) d.done k
     new_doings k here =
         let n : NoDoings (progress_of s.progress (length d.requests + 1)) d.done (length d.requests + 1) = none_before (request_of d.requests (length d.requests + 1)) (request_past d.requests) (f.doings (length d.requests + 1)) in
-        rw here (rw (request_new d.requests (requests.opened job), n.nothing) (λ o. record {
+        rw here (rw (request_new d.requests (requests.opened submission), n.nothing) (λ o. record {
           faulted = refl;
           reply = refl;
           places = λ index. sym (n.places index);

@@ -18,7 +18,7 @@ Notes = ℕ → List (ℕ × List ℕ)
 
 -- a request as the state keeps it
 abbrev pub open_as : ℕ → DiskRequest → List (ℕ × List ℕ) → Open
-open_as id r noted = record { number = id; job = r.job; stage = r.stage; noted = noted }
+open_as id r noted = record { number = id; submission = r.submission; stage = r.stage; noted = noted }
 
 -- those that aren't finished, from the number n on
 abbrev pub opens : Notes → ℕ → List DiskRequest → List (ℕ × Open)
@@ -115,17 +115,17 @@ remove_open g (x ∷ rs) n (suc i) r new found waits ends =
     by_stage false is rest = rw is (rw (at_other ((n + 1) + i) n far) (rw rest refl))
 
 -- a request stays as it was kept
-pub stay_open : (g : Notes) (rs : List DiskRequest) (n i : ℕ) (r new : DiskRequest) → slice_get rs i ≡ Some r → new.job ≡ r.job → new.stage ≡ r.stage → opens g n (slice_set rs i new) ≡ opens g n rs
-stay_open g [] n i r new found job stage = refl
-stay_open g (x ∷ rs) n zero r new found job stage =
+pub stay_open : (g : Notes) (rs : List DiskRequest) (n i : ℕ) (r new : DiskRequest) → slice_get rs i ≡ Some r → new.submission ≡ r.submission → new.stage ≡ r.stage → opens g n (slice_set rs i new) ≡ opens g n rs
+stay_open g [] n i r new found submission stage = refl
+stay_open g (x ∷ rs) n zero r new found submission stage =
     let is : x ≡ r = cc in
-    rw (is, job, stage) refl
-stay_open g (x ∷ rs) n (suc i) r new found job stage = rw (stay_open g rs (n + 1) i r new found job stage) refl
+    rw (is, submission, stage) refl
+stay_open g (x ∷ rs) n (suc i) r new found submission stage = rw (stay_open g rs (n + 1) i r new found submission stage) refl
 
-pub reopened_job : (r : DiskRequest) → (reopened r).job ≡ r.job
+pub reopened_job : (r : DiskRequest) → (reopened r).submission ≡ r.submission
 reopened_job r = by_stage (is_open r.stage) refl
   where
-    by_stage : (b : Bool) → is_open r.stage ≡ b → (reopened r).job ≡ r.job
+    by_stage : (b : Bool) → is_open r.stage ≡ b → (reopened r).submission ≡ r.submission
     by_stage true is = rw is refl
     by_stage false is = rw is refl
 

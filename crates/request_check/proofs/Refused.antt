@@ -4,10 +4,10 @@ use Rattle.std.specs.Prelude.{Option, Some, None, nat_le, nat_lt}
 use Rattle.std.proofs.lemmas.Option.{none-some, same_Some}
 use Rattle.std.proofs.lemmas.Bool.Decides.{nat_tests}
 use Rattle.blk_base.specs.Options.{Options}
-use Rattle.blk_base.specs.declared.config.Job.{Job}
-use Rattle.blk_base.specs.declared.config.Job.TheVariants as jobs
-use Rattle.schedule_text.specs.declared.line.Refusal.{Refusal}
-use Rattle.schedule_text.specs.declared.line.Refusal.TheVariants as refusal
+use Rattle.blk_base.specs.declared.config.Submission.{Submission}
+use Rattle.blk_base.specs.declared.config.Submission.TheVariants as submissions
+use Rattle.blk_base.specs.declared.refusal.Refusal.{Refusal}
+use Rattle.blk_base.specs.declared.refusal.Refusal.TheVariants as refusal
 use Rattle.plain_disk.specs.Refusal.{frames_of, is_unsupported, is_refused_write, is_past_end, is_long}
 use Rattle.request_check.specs.Rules.{CanBeAsked}
 use Rattle.request_check.specs.State.{State}
@@ -32,8 +32,8 @@ pick spent closing connected broken kind write past long full lacks =
     else late_pick kind write past long full lacks))
 
 -- why a submission is refused in this state
-abbrev pub pick_of : State → Options → Job → Option Refusal
-pick_of s o job = pick (s.submitted == 4294967295) s.sight.closing s.sight.connected s.sight.broken (is_unsupported o job) (is_refused_write o job) (is_past_end o job) (is_long o job) (is_ring_full s o) (are_too_many s (frames_of job))
+abbrev pub pick_of : State → Options → Submission → Option Refusal
+pick_of s o submission = pick (s.submitted == 4294967295) s.sight.closing s.sight.connected s.sight.broken (is_unsupported o submission) (is_refused_write o submission) (is_past_end o submission) (is_long o submission) (is_ring_full s o) (are_too_many s (frames_of submission))
 
 abbrev at_work : Bool → Bool → Bool → Bool → Bool
 at_work spent closing connected broken = not spent && not closing && connected && not broken
@@ -73,8 +73,8 @@ late false false false broken kind write past long full lacks h = absurd (cc)
 late false false true true kind write past long full lacks h = absurd (cc)
 late false false true false kind write past long full lacks h = refl
 
-late_of : (s : State) (o : Options) (job : Job) → is_at_work s ≡ true → pick_of s o job ≡ late_pick (is_unsupported o job) (is_refused_write o job) (is_past_end o job) (is_long o job) (is_ring_full s o) (are_too_many s (frames_of job))
-late_of s o job work = late (s.submitted == 4294967295) s.sight.closing s.sight.connected s.sight.broken (is_unsupported o job) (is_refused_write o job) (is_past_end o job) (is_long o job) (is_ring_full s o) (are_too_many s (frames_of job)) work
+late_of : (s : State) (o : Options) (submission : Submission) → is_at_work s ≡ true → pick_of s o submission ≡ late_pick (is_unsupported o submission) (is_refused_write o submission) (is_past_end o submission) (is_long o submission) (is_ring_full s o) (are_too_many s (frames_of submission))
+late_of s o submission work = late (s.submitted == 4294967295) s.sight.closing s.sight.connected s.sight.broken (is_unsupported o submission) (is_refused_write o submission) (is_past_end o submission) (is_long o submission) (is_ring_full s o) (are_too_many s (frames_of submission)) work
 
 both_true : (a b : Bool) → (a && b) ≡ true → (a ≡ true) × (b ≡ true)
 both_true true true h = (refl, refl)
@@ -92,10 +92,10 @@ is_not false h = refl
 
 -- ---- there is a submission that is refused so
 abbrev pub IsRefusedSo : State → Options → Refusal → Type 0
-IsRefusedSo s o w = (job : Job) × CanBeAsked job × (pick_of s o job ≡ Some w)
+IsRefusedSo s o w = (submission : Submission) × CanBeAsked submission × (pick_of s o submission ≡ Some w)
 
 spent_so : (s : State) (o : Options) → may_refuse s o refusal.Spent ≡ true → IsRefusedSo s o refusal.Spent
-spent_so s o h = (jobs.Flush, tt, rw h refl)
+spent_so s o h = (submissions.Flush, tt, rw h refl)
 
 early_by : (spent closing connected broken : Bool) (rest : Option Refusal) → (not spent && not closing && (not connected || broken)) ≡ true
     → (if spent then Some refusal.Spent else (if not closing && (not connected || broken) then Some refusal.NotReady else (if closing then Some refusal.Closing else rest))) ≡ Some refusal.NotReady
@@ -106,7 +106,7 @@ early_by false false true true rest h = refl
 early_by false false true false rest h = absurd (cc)
 
 early_so : (s : State) (o : Options) → may_refuse s o refusal.NotReady ≡ true → IsRefusedSo s o refusal.NotReady
-early_so s o h = (jobs.Flush, tt, early_by (s.submitted == 4294967295) s.sight.closing s.sight.connected s.sight.broken _ h)
+early_so s o h = (submissions.Flush, tt, early_by (s.submitted == 4294967295) s.sight.closing s.sight.connected s.sight.broken _ h)
 
 closing_by : (spent closing connected broken : Bool) (rest : Option Refusal) → (not spent && closing) ≡ true
     → (if spent then Some refusal.Spent else (if not closing && (not connected || broken) then Some refusal.NotReady else (if closing then Some refusal.Closing else rest))) ≡ Some refusal.Closing
@@ -115,23 +115,23 @@ closing_by false true connected broken rest h = refl
 closing_by false false connected broken rest h = absurd (cc)
 
 closing_so : (s : State) (o : Options) → may_refuse s o refusal.Closing ≡ true → IsRefusedSo s o refusal.Closing
-closing_so s o h = (jobs.Flush, tt, closing_by (s.submitted == 4294967295) s.sight.closing s.sight.connected s.sight.broken _ h)
+closing_so s o h = (submissions.Flush, tt, closing_by (s.submitted == 4294967295) s.sight.closing s.sight.connected s.sight.broken _ h)
 
 unsupported_so : (s : State) (o : Options) → may_refuse s o refusal.Unsupported ≡ true → IsRefusedSo s o refusal.Unsupported
 unsupported_so s o h =
     let both = both_true (is_at_work s) o.read_only h in
-    (jobs.Flush, tt, late_of s o jobs.Flush both.0 ∙ rw both.1 refl)
+    (submissions.Flush, tt, late_of s o submissions.Flush both.0 ∙ rw both.1 refl)
 
 read_only_so : (s : State) (o : Options) → may_refuse s o refusal.ReadOnly ≡ true → IsRefusedSo s o refusal.ReadOnly
 read_only_so s o h =
     let both = both_true (is_at_work s) o.read_only h in
-    (jobs.Write 0 1 0, (omega arith, omega arith, omega arith, omega arith), late_of s o (jobs.Write 0 1 0) both.0 ∙ rw both.1 refl)
+    (submissions.Write 0 1 0, (omega arith, omega arith, omega arith, omega arith), late_of s o (submissions.Write 0 1 0) both.0 ∙ rw both.1 refl)
 
 range_so : (s : State) (o : Options) → may_refuse s o refusal.Range ≡ true → IsRefusedSo s o refusal.Range
 range_so s o h =
     let both = both_true (is_at_work s) (nat_lt o.sectors 18446744078004518910) h in
-    let past : is_past_end o (jobs.Read 18446744073709551615 4294967295) ≡ true = both.1 in
-    (jobs.Read 18446744073709551615 4294967295, (omega arith, omega arith, omega arith), late_of s o (jobs.Read 18446744073709551615 4294967295) both.0 ∙ rw past refl)
+    let past : is_past_end o (submissions.Read 18446744073709551615 4294967295) ≡ true = both.1 in
+    (submissions.Read 18446744073709551615 4294967295, (omega arith, omega arith, omega arith), late_of s o (submissions.Read 18446744073709551615 4294967295) both.0 ∙ rw past refl)
 
 long_read : (m : ℕ) → nat_lt m ((8 * m + 1 + 7) / 8) ≡ true
 long_read m =
@@ -142,13 +142,13 @@ long_by : (s : State) (o : Options) (b : Bool) → o.read_only ≡ b → is_at_w
 long_by s o true ro work within =
     let n = 8 * max 11 o.indirect + 1 in
     let in_disk : n ≤ min o.sectors 4294967295 = grind (arith, nat_tests) in
-    let past : is_past_end o (jobs.Read 0 (8 * max 11 o.indirect + 1)) ≡ false = grind (arith, nat_tests) in
-    let long : is_long o (jobs.Read 0 (8 * max 11 o.indirect + 1)) ≡ true = long_read (max 11 o.indirect) in
-    (jobs.Read 0 (8 * max 11 o.indirect + 1), (omega arith, omega arith, omega arith), late_of s o (jobs.Read 0 (8 * max 11 o.indirect + 1)) work ∙ rw (past, long) refl)
+    let past : is_past_end o (submissions.Read 0 (8 * max 11 o.indirect + 1)) ≡ false = grind (arith, nat_tests) in
+    let long : is_long o (submissions.Read 0 (8 * max 11 o.indirect + 1)) ≡ true = long_read (max 11 o.indirect) in
+    (submissions.Read 0 (8 * max 11 o.indirect + 1), (omega arith, omega arith, omega arith), late_of s o (submissions.Read 0 (8 * max 11 o.indirect + 1)) work ∙ rw (past, long) refl)
 long_by s o false ro work within =
     let in_disk : 89 ≤ min o.sectors 4294967295 = grind (arith, nat_tests) in
-    let past : is_past_end o (jobs.Barrier 0 89 0) ≡ false = grind (arith, nat_tests) in
-    (jobs.Barrier 0 89 0, (omega arith, omega arith, omega arith, omega arith), late_of s o (jobs.Barrier 0 89 0) work ∙ rw (ro, past) refl)
+    let past : is_past_end o (submissions.Barrier 0 89 0) ≡ false = grind (arith, nat_tests) in
+    (submissions.Barrier 0 89 0, (omega arith, omega arith, omega arith, omega arith), late_of s o (submissions.Barrier 0 89 0) work ∙ rw (ro, past) refl)
 
 long_so : (s : State) (o : Options) → may_refuse s o refusal.Long ≡ true → IsRefusedSo s o refusal.Long
 long_so s o h =
@@ -158,12 +158,12 @@ long_so s o h =
 full_by : (s : State) (o : Options) (b : Bool) → o.read_only ≡ b → is_at_work s ≡ true → is_ring_full s o ≡ true → (not b || not (o.sectors == 0)) ≡ true → IsRefusedSo s o refusal.Full
 full_by s o true ro work full some =
     let none : (o.sectors == 0) ≡ false = is_not (o.sectors == 0) some in
-    let past : is_past_end o (jobs.Read 0 1) ≡ false = grind (arith, nat_tests) in
-    let long : is_long o (jobs.Read 0 1) ≡ false = grind (arith, nat_tests) in
-    (jobs.Read 0 1, (omega arith, omega arith, omega arith), late_of s o (jobs.Read 0 1) work ∙ rw (past, long, full) refl)
+    let past : is_past_end o (submissions.Read 0 1) ≡ false = grind (arith, nat_tests) in
+    let long : is_long o (submissions.Read 0 1) ≡ false = grind (arith, nat_tests) in
+    (submissions.Read 0 1, (omega arith, omega arith, omega arith), late_of s o (submissions.Read 0 1) work ∙ rw (past, long, full) refl)
 full_by s o false ro work full some =
-    let past : is_past_end o jobs.Flush ≡ false = grind (arith, nat_tests) in
-    (jobs.Flush, tt, late_of s o jobs.Flush work ∙ rw (ro, past, full) refl)
+    let past : is_past_end o submissions.Flush ≡ false = grind (arith, nat_tests) in
+    (submissions.Flush, tt, late_of s o submissions.Flush work ∙ rw (ro, past, full) refl)
 
 full_so : (s : State) (o : Options) → may_refuse s o refusal.Full ≡ true → IsRefusedSo s o refusal.Full
 full_so s o h =
@@ -177,17 +177,17 @@ short_read m n within =
     grind (arith, nat_tests)
 
 buffers_by : (s : State) (o : Options) (b : Bool) → (most_read o == 0) ≡ b → is_at_work s ≡ true → is_ring_full s o ≡ false
-    → (if b then not o.read_only && are_too_many s 0 else are_too_many s (frames_of (jobs.Read 0 (most_read o)))) ≡ true → IsRefusedSo s o refusal.Buffers
+    → (if b then not o.read_only && are_too_many s 0 else are_too_many s (frames_of (submissions.Read 0 (most_read o)))) ≡ true → IsRefusedSo s o refusal.Buffers
 buffers_by s o true none work room lacks =
     let both = both_true (not o.read_only) (are_too_many s 0) lacks in
     let ro : o.read_only ≡ false = is_not o.read_only both.0 in
-    let past : is_past_end o jobs.Flush ≡ false = grind (arith, nat_tests) in
-    (jobs.Flush, tt, late_of s o jobs.Flush work ∙ rw (ro, past, room) (rw both.1 refl))
+    let past : is_past_end o submissions.Flush ≡ false = grind (arith, nat_tests) in
+    (submissions.Flush, tt, late_of s o submissions.Flush work ∙ rw (ro, past, room) (rw both.1 refl))
 buffers_by s o false some work room lacks =
     let apart : (most_read o ≡ 0) → ⊥ = λ e. grind (arith, nat_tests) in
-    let past : is_past_end o (jobs.Read 0 (most_read o)) ≡ false = grind (arith, nat_tests) in
-    let long : is_long o (jobs.Read 0 (most_read o)) ≡ false = short_read (max 11 o.indirect) (most_read o) (omega arith) in
-    (jobs.Read 0 (most_read o), (omega arith, omega arith, omega arith), late_of s o (jobs.Read 0 (most_read o)) work ∙ rw (past, long, room) (rw lacks refl))
+    let past : is_past_end o (submissions.Read 0 (most_read o)) ≡ false = grind (arith, nat_tests) in
+    let long : is_long o (submissions.Read 0 (most_read o)) ≡ false = short_read (max 11 o.indirect) (most_read o) (omega arith) in
+    (submissions.Read 0 (most_read o), (omega arith, omega arith, omega arith), late_of s o (submissions.Read 0 (most_read o)) work ∙ rw (past, long, room) (rw lacks refl))
 
 buffers_so : (s : State) (o : Options) → may_refuse s o refusal.Buffers ≡ true → IsRefusedSo s o refusal.Buffers
 buffers_so s o h =

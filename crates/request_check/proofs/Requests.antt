@@ -7,7 +7,7 @@ use Rattle.std.specs.Ordering.{nat_cmp}
 use Rattle.std.proofs.lemmas.Bool.Decides.{nat_tests}
 use Rattle.std.proofs.lemmas.Option.{slice_get-map}
 use Rattle.std.proofs.lemmas.List.Sums.{sum_by-append}
-use Rattle.blk_base.specs.declared.config.Job.{Job}
+use Rattle.blk_base.specs.declared.config.Submission.{Submission}
 use Rattle.plain_disk.specs.declared.request.DiskRequest.{DiskRequest}
 use Rattle.plain_disk.specs.Request.{is_finished}
 use Rattle.plain_disk.specs.Disk.{request_of}
@@ -121,9 +121,9 @@ opens_remove g rs (suc i) r new found waits ends =
     rw (with_suc rs i new) (subst (λ (k : ℕ). opens g 1 (slice_set rs i new) ≡ remove_entry (is_at (nat_cmp k)) (opens g 1 rs)) at
     (remove_open g rs 1 i r new (sym (request_suc rs i) ∙ found) waits ends))
 
-pub opens_stay : (g : Notes) (rs : List DiskRequest) (id : ℕ) (r new : DiskRequest) → request_of rs id ≡ Some r → new.job ≡ r.job → new.stage ≡ r.stage → opens g 1 (with_request rs id new) ≡ opens g 1 rs
-opens_stay g rs zero r new found job stage = absurd (cc)
-opens_stay g rs (suc i) r new found job stage = rw (with_suc rs i new) (stay_open g rs 1 i r new (sym (request_suc rs i) ∙ found) job stage)
+pub opens_stay : (g : Notes) (rs : List DiskRequest) (id : ℕ) (r new : DiskRequest) → request_of rs id ≡ Some r → new.submission ≡ r.submission → new.stage ≡ r.stage → opens g 1 (with_request rs id new) ≡ opens g 1 rs
+opens_stay g rs zero r new found submission stage = absurd (cc)
+opens_stay g rs (suc i) r new found submission stage = rw (with_suc rs i new) (stay_open g rs 1 i r new (sym (request_suc rs i) ∙ found) submission stage)
 
 pub opens_add : (g h : Notes) (rs : List DiskRequest) (r : DiskRequest) → is_finished r.stage ≡ false → ((k : ℕ) → (k ≡ length rs + 1 → ⊥) → h k ≡ g k)
     → opens h 1 (rs ++ r ∷ []) ≡ insert_entry nat_cmp (opens g 1 rs) (length rs + 1) (open_as (length rs + 1) r (h (length rs + 1)))
@@ -133,15 +133,15 @@ opens_add g h rs r waits same =
     rw (← before) (subst (λ (k : ℕ). opens h 1 (rs ++ r ∷ []) ≡ insert_entry nat_cmp (opens h 1 rs) k (open_as k r (h k))) at (one_more_open h rs 1 r waits))
 
 -- ---- what unfinished requests hold
-abbrev pub held : (Job → ℕ) → DiskRequest → ℕ
-held f r = if is_finished r.stage then 0 else f r.job
+abbrev pub held : (Submission → ℕ) → DiskRequest → ℕ
+held f r = if is_finished r.stage then 0 else f r.submission
 
-pub first_held : (f : Job → ℕ) (x : DiskRequest) (rs : List DiskRequest) → sum_by (held f) (x ∷ rs) ≡ held f x + sum_by (held f) rs
+pub first_held : (f : Submission → ℕ) (x : DiskRequest) (rs : List DiskRequest) → sum_by (held f) (x ∷ rs) ≡ held f x + sum_by (held f) rs
 first_held f x rs =
     let all : sum_by (held f) (x ∷ rs) ≡ sum_by (held f) (x ∷ []) + sum_by (held f) rs = sum_by-append (held f) (x ∷ []) rs in
     omega arith
 
-held_set : (f : Job → ℕ) (rs : List DiskRequest) (i : ℕ) (r new : DiskRequest) → slice_get rs i ≡ Some r → sum_by (held f) (slice_set rs i new) + held f r ≡ sum_by (held f) rs + held f new
+held_set : (f : Submission → ℕ) (rs : List DiskRequest) (i : ℕ) (r new : DiskRequest) → slice_get rs i ≡ Some r → sum_by (held f) (slice_set rs i new) + held f r ≡ sum_by (held f) rs + held f new
 held_set f [] i r new found = absurd (cc)
 held_set f (x ∷ rs) zero r new found =
     let is : x ≡ r = cc in
@@ -154,17 +154,17 @@ held_set f (x ∷ rs) (suc i) r new found =
     let other : sum_by (held f) (x ∷ rs) ≡ held f x + sum_by (held f) rs = first_held f x rs in
     rw (one, other) (omega arith)
 
-pub held_with : (f : Job → ℕ) (rs : List DiskRequest) (id : ℕ) (r new : DiskRequest) → request_of rs id ≡ Some r → sum_by (held f) (with_request rs id new) + held f r ≡ sum_by (held f) rs + held f new
+pub held_with : (f : Submission → ℕ) (rs : List DiskRequest) (id : ℕ) (r new : DiskRequest) → request_of rs id ≡ Some r → sum_by (held f) (with_request rs id new) + held f r ≡ sum_by (held f) rs + held f new
 held_with f rs zero r new found = absurd (cc)
 held_with f rs (suc i) r new found = rw (with_suc rs i new) (held_set f rs i r new (sym (request_suc rs i) ∙ found))
 
-pub held_more : (f : Job → ℕ) (rs : List DiskRequest) (r : DiskRequest) → is_finished r.stage ≡ false → sum_by (held f) (rs ++ r ∷ []) ≡ sum_by (held f) rs + f r.job
+pub held_more : (f : Submission → ℕ) (rs : List DiskRequest) (r : DiskRequest) → is_finished r.stage ≡ false → sum_by (held f) (rs ++ r ∷ []) ≡ sum_by (held f) rs + f r.submission
 held_more f rs r waits =
     let all : sum_by (held f) (rs ++ r ∷ []) ≡ sum_by (held f) rs + sum_by (held f) (r ∷ []) = sum_by-append (held f) rs (r ∷ []) in
-    let last : held f r ≡ f r.job = rw waits refl in
+    let last : held f r ≡ f r.submission = rw waits refl in
     omega arith
 
-pub held_reopened : (f : Job → ℕ) (rs : List DiskRequest) → sum_by (held f) (map reopened rs) ≡ sum_by (held f) rs
+pub held_reopened : (f : Submission → ℕ) (rs : List DiskRequest) → sum_by (held f) (map reopened rs) ≡ sum_by (held f) rs
 held_reopened f [] = refl
 held_reopened f (r ∷ rs) =
     let here : held f (reopened r) ≡ held f r = rw (reopened_stage r, reopened_job r) refl in

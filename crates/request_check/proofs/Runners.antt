@@ -3,8 +3,8 @@ use Rattle.std.proofs.Common.{append_assoc, ◌≡◌, ◌+◌, ◌≤◌, ◌==
 use Rattle.std.specs.Prelude.{Option, Some, None, option_and_then, fold, is_none}
 use Rattle.std.proofs.lemmas.Bool.Decides.{nat_tests}
 use Rattle.blk_base.specs.Options.{Options}
-use Rattle.blk_base.specs.declared.config.Job.{Job}
-use Rattle.schedule_text.specs.declared.line.Refusal.TheVariants as refusal
+use Rattle.blk_base.specs.declared.config.Submission.{Submission}
+use Rattle.blk_base.specs.declared.refusal.Refusal.TheVariants as refusal
 use Rattle.schedule_text.specs.declared.line.Line.{Line}
 use Rattle.schedule_text.specs.declared.line.Line.TheVariants as lines
 use Rattle.report_rules.specs.Obeys.{Obeys}
@@ -64,19 +64,19 @@ first_last false false true false false false false false false lacks h = (refl,
     not_so false e = refl
 
 -- what passes the limits has a number left, and its frames
-fits_by : (s : Sight) (c : Option Options) (requests : List DiskRequest) (job : Job) → refusal_at s c requests job ≡ None → ((length requests == 4294967295) ≡ false) × (lacks_frames requests job ≡ false)
-fits_by s None requests job none = absurd (cc)
-fits_by s (Some o) requests job none =
-    first_last (length requests == 4294967295) s.closing s.connected s.broken (is_unsupported o job) (is_refused_write o job) (is_past_end o job) (is_long o job) (is_full o requests) (lacks_frames requests job)
-    (sym (accepted (length requests == 4294967295) s.closing s.connected s.broken (is_unsupported o job) (is_refused_write o job) (is_past_end o job) (is_long o job) (is_full o requests) (lacks_frames requests job)) ∙ ap is_none none)
+fits_by : (s : Sight) (c : Option Options) (requests : List DiskRequest) (submission : Submission) → refusal_at s c requests submission ≡ None → ((length requests == 4294967295) ≡ false) × (lacks_frames requests submission ≡ false)
+fits_by s None requests submission none = absurd (cc)
+fits_by s (Some o) requests submission none =
+    first_last (length requests == 4294967295) s.closing s.connected s.broken (is_unsupported o submission) (is_refused_write o submission) (is_past_end o submission) (is_long o submission) (is_full o requests) (lacks_frames requests submission)
+    (sym (accepted (length requests == 4294967295) s.closing s.connected s.broken (is_unsupported o submission) (is_refused_write o submission) (is_past_end o submission) (is_long o submission) (is_full o requests) (lacks_frames requests submission)) ∙ ap is_none none)
 
 fits : (before : List Line) (line : Line) (d : Disk) → length d.requests ≤ 4294967295 → disk_after before ≡ Some d → IsSubmitAt before line → FitsLimits d line
-fits before (lines.Submit id job) d few is h =
+fits before (lines.Submit id submission) d few is h =
     let s = fold refusals.seen nothing_seen before in
-    let none : refusal_at s s.config d.requests job ≡ None = subst (λ (o : Option Disk). refusal_at s s.config (requests_in o) job ≡ None) is h.1 in
-    let both = fits_by s s.config d.requests job none in
+    let none : refusal_at s s.config d.requests submission ≡ None = subst (λ (o : Option Disk). refusal_at s s.config (requests_in o) submission ≡ None) is h.1 in
+    let both = fits_by s s.config d.requests submission none in
     let left : (length d.requests == 4294967295) ≡ false = both.0 in
-    let room : nat_lt 1000 (sum_by refusals.frames_held d.requests + frames_of job) ≡ false = both.1 in
+    let room : nat_lt 1000 (sum_by refusals.frames_held d.requests + frames_of submission) ≡ false = both.1 in
     (grind (arith, nat_tests), grind (arith, nat_tests))
 fits before line d few is h = tt
 

@@ -53,7 +53,7 @@ keeps_steps before line d is k = record {
 }
 
 pub has_next : (before : List Line) (line : Line) (d : Disk) → disk_after before ≡ Some d → IsSubmitAt before line → HasNext d line
-has_next before (lines.Submit id job) d is h = h.0 ∙ ap (λ (o : Option Disk). length (requests_in o) + 1) is
+has_next before (lines.Submit id submission) d is h = h.0 ∙ ap (λ (o : Option Disk). length (requests_in o) + 1) is
 has_next before line d is h = tt
 
 runs_on : (before rest : List Line) (d : Disk) → disk_after before ≡ Some d → Obeys KeepsRequests (before ++ rest) → (e : Disk) × (after rest d ≡ Some e)

@@ -5,7 +5,7 @@ use Rattle.std.proofs.lemmas.Bool.{cases_eq}
 use Rattle.std.proofs.lemmas.Bool.Decides.{nat_tests}
 use Rattle.std.proofs.lemmas.List.{length-append, drop-append-le}
 use Rattle.std.proofs.lemmas.List.Sums.{fold-append}
-use Rattle.blk_base.specs.declared.config.Job.{Job}
+use Rattle.blk_base.specs.declared.config.Submission.{Submission}
 use Rattle.plain_disk.specs.declared.request.Written.{Written}
 use Rattle.plain_disk.specs.Request.{sector_of}
 use Rattle.plain_disk.specs.Disk.{covers, words_at}
@@ -33,11 +33,11 @@ drop_all [] = refl
 drop_all (x ∷ xs) = drop_all xs
 
 -- ---- one sector
-one_covers : (job : Job) (index : ℕ) (words : Option (List ℕ)) → covers (one_sector job index words) (sector_of job + index) ≡ true
-one_covers job index words = grind (arith, nat_tests)
+one_covers : (submission : Submission) (index : ℕ) (words : Option (List ℕ)) → covers (one_sector submission index words) (sector_of submission + index) ≡ true
+one_covers submission index words = grind (arith, nat_tests)
 
-one_passes : (job : Job) (index sector : ℕ) (words : Option (List ℕ)) → (sector ≡ sector_of job + index → ⊥) → covers (one_sector job index words) sector ≡ false
-one_passes job index sector words far = grind (arith, nat_tests)
+one_passes : (submission : Submission) (index sector : ℕ) (words : Option (List ℕ)) → (sector ≡ sector_of submission + index → ⊥) → covers (one_sector submission index words) sector ≡ false
+one_passes submission index sector words far = grind (arith, nat_tests)
 
 set_here : (known : Known) (sector : ℕ) (words : Option (List ℕ)) → words_in (with_single known sector words) sector ≡ words
 set_here known sector words = rw (entry_same known.singles sector (record { words = words; since = length known.ranges })) (rw (drop_all known.ranges) refl)
@@ -45,31 +45,31 @@ set_here known sector words = rw (entry_same known.singles sector (record { word
 set_elsewhere : (known : Known) (sector other : ℕ) (words : Option (List ℕ)) → (other ≡ sector → ⊥) → words_in (with_single known sector words) other ≡ words_in known other
 set_elsewhere known sector other words far = rw (entry_other known.singles sector other (record { words = words; since = length known.ranges }) far) refl
 
-pub same_single : (known : Known) (first : List (List ℕ)) (written : List Written) (job : Job) (index : ℕ) (words : Option (List ℕ)) → SameWords known first written
-    → SameWords (with_single known (sector_of job + index) words) first (written ++ one_sector job index words ∷ [])
-same_single known first written job index words s = record {
-  words = λ sector. ⊎_elim (λ here. at_it sector here) (λ far. elsewhere sector far) (cases_eq sector (sector_of job + index));
-  since = λ sector single found. ⊎_elim (λ here. since_here sector single here found) (λ far. since_elsewhere sector single far found) (cases_eq sector (sector_of job + index));
+pub same_single : (known : Known) (first : List (List ℕ)) (written : List Written) (submission : Submission) (index : ℕ) (words : Option (List ℕ)) → SameWords known first written
+    → SameWords (with_single known (sector_of submission + index) words) first (written ++ one_sector submission index words ∷ [])
+same_single known first written submission index words s = record {
+  words = λ sector. ⊎_elim (λ here. at_it sector here) (λ far. elsewhere sector far) (cases_eq sector (sector_of submission + index));
+  since = λ sector single found. ⊎_elim (λ here. since_here sector single here found) (λ far. since_elsewhere sector single far found) (cases_eq sector (sector_of submission + index));
 }
   where
     it : Single
     it = record { words = words; since = length known.ranges }
 
-    at_it : (sector : ℕ) → sector ≡ sector_of job + index → words_in (with_single known (sector_of job + index) words) sector ≡ words_at first (written ++ one_sector job index words ∷ []) sector
-    at_it sector here = rw here (set_here known (sector_of job + index) words ∙ sym (written_more first written (one_sector job index words) (sector_of job + index) ∙ rw (one_covers job index words) refl))
+    at_it : (sector : ℕ) → sector ≡ sector_of submission + index → words_in (with_single known (sector_of submission + index) words) sector ≡ words_at first (written ++ one_sector submission index words ∷ []) sector
+    at_it sector here = rw here (set_here known (sector_of submission + index) words ∙ sym (written_more first written (one_sector submission index words) (sector_of submission + index) ∙ rw (one_covers submission index words) refl))
 
-    elsewhere : (sector : ℕ) → (sector ≡ sector_of job + index → ⊥) → words_in (with_single known (sector_of job + index) words) sector ≡ words_at first (written ++ one_sector job index words ∷ []) sector
-    elsewhere sector far = set_elsewhere known (sector_of job + index) sector words far ∙ s.words sector ∙ sym (written_more first written (one_sector job index words) sector ∙ rw (one_passes job index sector words far) refl)
+    elsewhere : (sector : ℕ) → (sector ≡ sector_of submission + index → ⊥) → words_in (with_single known (sector_of submission + index) words) sector ≡ words_at first (written ++ one_sector submission index words ∷ []) sector
+    elsewhere sector far = set_elsewhere known (sector_of submission + index) sector words far ∙ s.words sector ∙ sym (written_more first written (one_sector submission index words) sector ∙ rw (one_passes submission index sector words far) refl)
 
-    since_here : (sector : ℕ) (single : Single) → sector ≡ sector_of job + index → entry_at (with_single known (sector_of job + index) words).singles sector ≡ Some single → single.since ≤ length known.ranges
+    since_here : (sector : ℕ) (single : Single) → sector ≡ sector_of submission + index → entry_at (with_single known (sector_of submission + index) words).singles sector ≡ Some single → single.since ≤ length known.ranges
     since_here sector single here found =
-        let set : entry_at (with_single known (sector_of job + index) words).singles sector ≡ Some (record { words = words; since = length known.ranges }) = rw here (entry_same known.singles (sector_of job + index) (record { words = words; since = length known.ranges })) in
+        let set : entry_at (with_single known (sector_of submission + index) words).singles sector ≡ Some (record { words = words; since = length known.ranges }) = rw here (entry_same known.singles (sector_of submission + index) (record { words = words; since = length known.ranges })) in
         let is : single ≡ record { words = words; since = length known.ranges } = cc in
         let at : single.since ≡ length known.ranges = ap (λ (x : Single). x.since) is in
         omega arith
 
-    since_elsewhere : (sector : ℕ) (single : Single) → (sector ≡ sector_of job + index → ⊥) → entry_at (with_single known (sector_of job + index) words).singles sector ≡ Some single → single.since ≤ length known.ranges
-    since_elsewhere sector single far found = s.since sector single (sym (entry_other known.singles (sector_of job + index) sector (record { words = words; since = length known.ranges }) far) ∙ found)
+    since_elsewhere : (sector : ℕ) (single : Single) → (sector ≡ sector_of submission + index → ⊥) → entry_at (with_single known (sector_of submission + index) words).singles sector ≡ Some single → single.since ≤ length known.ranges
+    since_elsewhere sector single far found = s.since sector single (sym (entry_other known.singles (sector_of submission + index) sector (record { words = words; since = length known.ranges }) far) ∙ found)
 
 -- ---- a discard
 range_by : (known : Known) (range : Discarded) (sector : ℕ) (o : Option Single) → entry_at known.singles sector ≡ o → ((single : Single) → o ≡ Some single → single.since ≤ length known.ranges)
@@ -77,21 +77,21 @@ range_by : (known : Known) (range : Discarded) (sector : ℕ) (o : Option Single
 range_by known range sector None is within = ranges_more None known.ranges range sector
 range_by known range sector (Some single) is within = rw (drop-append-le single.since known.ranges (range ∷ []) (within single refl)) (ranges_more single.words (drop single.since known.ranges) range sector)
 
-same_sectors : (job : Job) (failed : Bool) (words : Option (List ℕ)) (sector : ℕ) → covers (all_sectors job words) sector ≡ has_sector (discarded job failed) sector
-same_sectors job failed words sector =
-    let first : sector_of job + 0 ≡ sector_of job = omega arith in
+same_sectors : (submission : Submission) (failed : Bool) (words : Option (List ℕ)) (sector : ℕ) → covers (all_sectors submission words) sector ≡ has_sector (discarded submission failed) sector
+same_sectors submission failed words sector =
+    let first : sector_of submission + 0 ≡ sector_of submission = omega arith in
     rw first refl
 
-pub same_range : (known : Known) (first : List (List ℕ)) (written : List Written) (job : Job) (failed : Bool) (words : Option (List ℕ)) → words ≡ words_left (discarded job failed) → SameWords known first written
-    → SameWords (with_range known (discarded job failed)) first (written ++ all_sectors job words ∷ [])
-same_range known first written job failed words left s = record {
+pub same_range : (known : Known) (first : List (List ℕ)) (written : List Written) (submission : Submission) (failed : Bool) (words : Option (List ℕ)) → words ≡ words_left (discarded submission failed) → SameWords known first written
+    → SameWords (with_range known (discarded submission failed)) first (written ++ all_sectors submission words ∷ [])
+same_range known first written submission failed words left s = record {
   words = λ sector.
-      range_by known (discarded job failed) sector (entry_at known.singles sector) refl (λ single found. s.since sector single found)
-      ∙ ap (λ (w : Option (List ℕ)). if has_sector (discarded job failed) sector then words_left (discarded job failed) else w) (s.words sector)
-      ∙ sym (written_more first written (all_sectors job words) sector ∙ rw (same_sectors job failed words sector, left) refl);
+      range_by known (discarded submission failed) sector (entry_at known.singles sector) refl (λ single found. s.since sector single found)
+      ∙ ap (λ (w : Option (List ℕ)). if has_sector (discarded submission failed) sector then words_left (discarded submission failed) else w) (s.words sector)
+      ∙ sym (written_more first written (all_sectors submission words) sector ∙ rw (same_sectors submission failed words sector, left) refl);
   since = λ sector single found.
-      (let all : length (known.ranges ++ discarded job failed ∷ []) ≡ length known.ranges + 1 = length-append known.ranges (discarded job failed ∷ []) in
+      (let all : length (known.ranges ++ discarded submission failed ∷ []) ≡ length known.ranges + 1 = length-append known.ranges (discarded submission failed ∷ []) in
       let within : single.since ≤ length known.ranges = s.since sector single found in
-      let more : single.since ≤ length (known.ranges ++ discarded job failed ∷ []) = omega arith in
+      let more : single.since ≤ length (known.ranges ++ discarded submission failed ∷ []) = omega arith in
       more);
 }

@@ -15,7 +15,7 @@ use Rattle.request_check.specs.Rules.{may_fill, may_show, may_end, is_any, is_or
 
 -- a submission has the next number
 abbrev pub HasNext : Disk → Line → Type 0
-HasNext d (lines.Submit id job) = id ≡ length d.requests + 1
+HasNext d (lines.Submit id submission) = id ≡ length d.requests + 1
 HasNext d line = Unit {0}
 
 -- a choice that gives something
@@ -32,7 +32,7 @@ first_of true b c d e h = refl
 first_of false b c d e h = absurd (cc)
 
 open_served : (done : List Place) (id : ℕ) (r : DiskRequest) (index : ℕ) → may_serve done id r index ≡ true → is_open r.stage ≡ true
-open_served done id r index h = first_of (is_open r.stage) (is_none r.reply) (not r.faulted) (nat_lt index (places_of r.job)) (not (is_done done id index)) h
+open_served done id r index h = first_of (is_open r.stage) (is_none r.reply) (not r.faulted) (nat_lt index (places_of r.submission)) (not (is_done done id index)) h
 
 -- served, and in order where it is served
 all_three : (kind serve order waits : Bool) → (serve ≡ true → waits ≡ true) → (kind && serve) ≡ true → (not (kind && waits) || order) ≡ true → (kind && serve && order) ≡ true
@@ -74,7 +74,7 @@ fault_order true false order waits h = absurd (cc)
 
 effect_on : (d : Disk) (id index : ℕ) (o : Option DiskRequest) → may_fill d id index o ≡ true → is_ordered_so is_write d id o ≡ true → (e : Disk) × (effect_of d id index o ≡ Some e)
 effect_on d id index None h b = absurd (cc)
-effect_on d id index (Some r) h b = chosen _ _ (all_three (is_write r.job) (may_serve d.done id r index) (is_in_order d id r) (is_open r.stage) (open_served d.done id r index) h b)
+effect_on d id index (Some r) h b = chosen _ _ (all_three (is_write r.submission) (may_serve d.done id r index) (is_in_order d id r) (is_open r.stage) (open_served d.done id r index) h b)
 
 read_on : (d : Disk) (id index : ℕ) (words : List ℕ) (o : Option DiskRequest) → may_show d id index words o ≡ true → (e : Disk) × (read_of d id index words o ≡ Some e)
 read_on d id index words None h = absurd (cc)
@@ -86,11 +86,11 @@ flush_on d id (Some r) h = chosen _ _ h
 
 trim_on : (d : Disk) (id : ℕ) (o : Option DiskRequest) → may_end is_discard d id 0 o ≡ true → is_ordered_so is_discard d id o ≡ true → (e : Disk) × (trimmed_of d id o ≡ Some e)
 trim_on d id None h b = absurd (cc)
-trim_on d id (Some r) h b = chosen _ _ (all_three (is_discard r.job) (may_serve d.done id r 0) (is_in_order d id r) (is_open r.stage) (open_served d.done id r 0) h b)
+trim_on d id (Some r) h b = chosen _ _ (all_three (is_discard r.submission) (may_serve d.done id r 0) (is_in_order d id r) (is_open r.stage) (open_served d.done id r 0) h b)
 
 fault_on : (d : Disk) (id index : ℕ) (o : Option DiskRequest) → may_end is_any d id index o ≡ true → is_ordered_so is_ordered d id o ≡ true → (e : Disk) × (fault_of d id index o ≡ Some e)
 fault_on d id index None h b = absurd (cc)
-fault_on d id index (Some r) h b = chosen _ _ (fault_both (is_ordered r.job) (may_serve d.done id r index) (is_in_order d id r) (is_open r.stage) (open_served d.done id r index) h b)
+fault_on d id index (Some r) h b = chosen _ _ (fault_both (is_ordered r.submission) (may_serve d.done id r index) (is_in_order d id r) (is_open r.stage) (open_served d.done id r index) h b)
 
 reply_on : (d : Disk) (id : ℕ) (status : Status) (o : Option DiskRequest) → may_be_replied d id status o ≡ true → (e : Disk) × (replied_of d id status o ≡ Some e)
 reply_on d id status None h = absurd (cc)
@@ -115,7 +115,7 @@ pub record KeepsSteps (d : Disk) (line : Line) : Type 0 where
   pub quiet : keeps_quiet d line ≡ true
 
 pub steps_on : (d : Disk) (line : Line) → KeepsSteps d line → HasNext d line → (e : Disk) × (step d line ≡ Some e)
-steps_on d (lines.Submit id job) k n = chosen _ _ (let test : (id == length d.requests + 1) ≡ true = grind (arith, nat_tests) in test)
+steps_on d (lines.Submit id submission) k n = chosen _ _ (let test : (id == length d.requests + 1) ≡ true = grind (arith, nat_tests) in test)
 steps_on d (lines.Effect id index) k n = effect_on d id index (request_of d.requests id) k.effect k.barrier
 steps_on d (lines.EffectRead id index words) k n = read_on d id index words (request_of d.requests id) k.effect
 steps_on d (lines.Flushed id) k n = flush_on d id (request_of d.requests id) k.service
@@ -130,8 +130,8 @@ steps_on d line k n = (_, refl)
 effect_kept : (d e : Disk) (id index : ℕ) (o : Option DiskRequest) → effect_of d id index o ≡ Some e → (may_fill d id index o ≡ true) × (is_ordered_so is_write d id o ≡ true)
 effect_kept d e id index None h = absurd (none-some e h)
 effect_kept d e id index (Some r) h =
-    let all : (is_write r.job && may_serve d.done id r index && is_in_order d id r) ≡ true = was_chosen _ _ e h in
-    (two_of (is_write r.job) (may_serve d.done id r index) (is_in_order d id r) all, third_of (is_write r.job) (may_serve d.done id r index) (is_in_order d id r) (is_open r.stage) all)
+    let all : (is_write r.submission && may_serve d.done id r index && is_in_order d id r) ≡ true = was_chosen _ _ e h in
+    (two_of (is_write r.submission) (may_serve d.done id r index) (is_in_order d id r) all, third_of (is_write r.submission) (may_serve d.done id r index) (is_in_order d id r) (is_open r.stage) all)
 
 read_kept : (d e : Disk) (id index : ℕ) (words : List ℕ) (o : Option DiskRequest) → read_of d id index words o ≡ Some e → may_show d id index words o ≡ true
 read_kept d e id index words None h = absurd (none-some e h)
@@ -144,14 +144,14 @@ flush_kept d e id (Some r) h = was_chosen _ _ e h
 trim_kept : (d e : Disk) (id : ℕ) (o : Option DiskRequest) → trimmed_of d id o ≡ Some e → (may_end is_discard d id 0 o ≡ true) × (is_ordered_so is_discard d id o ≡ true)
 trim_kept d e id None h = absurd (none-some e h)
 trim_kept d e id (Some r) h =
-    let all : (is_discard r.job && may_serve d.done id r 0 && is_in_order d id r) ≡ true = was_chosen _ _ e h in
-    (two_of (is_discard r.job) (may_serve d.done id r 0) (is_in_order d id r) all, third_of (is_discard r.job) (may_serve d.done id r 0) (is_in_order d id r) (is_open r.stage) all)
+    let all : (is_discard r.submission && may_serve d.done id r 0 && is_in_order d id r) ≡ true = was_chosen _ _ e h in
+    (two_of (is_discard r.submission) (may_serve d.done id r 0) (is_in_order d id r) all, third_of (is_discard r.submission) (may_serve d.done id r 0) (is_in_order d id r) (is_open r.stage) all)
 
 fault_kept : (d e : Disk) (id index : ℕ) (o : Option DiskRequest) → fault_of d id index o ≡ Some e → (may_end is_any d id index o ≡ true) × (is_ordered_so is_ordered d id o ≡ true)
 fault_kept d e id index None h = absurd (none-some e h)
 fault_kept d e id index (Some r) h =
-    let all : (may_serve d.done id r index && (not (is_ordered r.job) || is_in_order d id r)) ≡ true = was_chosen _ _ e h in
-    (one_of (may_serve d.done id r index) (not (is_ordered r.job) || is_in_order d id r) all, fault_order (is_ordered r.job) (may_serve d.done id r index) (is_in_order d id r) (is_open r.stage) all)
+    let all : (may_serve d.done id r index && (not (is_ordered r.submission) || is_in_order d id r)) ≡ true = was_chosen _ _ e h in
+    (one_of (may_serve d.done id r index) (not (is_ordered r.submission) || is_in_order d id r) all, fault_order (is_ordered r.submission) (may_serve d.done id r index) (is_in_order d id r) (is_open r.stage) all)
 
 reply_kept : (d e : Disk) (id : ℕ) (status : Status) (o : Option DiskRequest) → replied_of d id status o ≡ Some e → may_be_replied d id status o ≡ true
 reply_kept d e id status None h = absurd (none-some e h)

@@ -96,7 +96,7 @@ walk kept done g (r ∷ rs) n (suc m) id barrier left all =
         → list_all (lets_pass kept id barrier) (values_of (opens g n (r ∷ rs))) ≡ are_settled done n (r ∷ take m rs) barrier
     by_stage true is so rest =
         let shut : is_open r.stage ≡ false = closed r.stage is in
-        rw is (rw shut (rw (or_true (not (is_ordered r.job)) (not (barrier || is_barrier r.job))) rest))
+        rw is (rw shut (rw (or_true (not (is_ordered r.submission)) (not (barrier || is_barrier r.submission))) rest))
     by_stage false is so rest =
         let same : is_settled_now (open_as n r (g n)) (progress_of kept n) ≡ is_settled done n r = so is in
         rw is (rw is_before (rw (same, rest) refl))
@@ -104,7 +104,7 @@ walk kept done g (r ∷ rs) n (suc m) id barrier left all =
 -- where no unfinished request is a barrier, no other waits
 pub no_barriers : (kept : List (ℕ × Progress)) (g : Notes) (rs : List DiskRequest) (n id : ℕ) → sum_by (held barriers_of) rs ≡ 0 → list_all (lets_pass kept id false) (values_of (opens g n rs)) ≡ true
 no_barriers kept g [] n id none = refl
-no_barriers kept g (r ∷ rs) n id none = by_stage (is_finished r.stage) refl (is_barrier r.job) refl first (no_barriers kept g rs (n + 1) id rest_none)
+no_barriers kept g (r ∷ rs) n id none = by_stage (is_finished r.stage) refl (is_barrier r.submission) refl first (no_barriers kept g rs (n + 1) id rest_none)
   where
     all : held barriers_of r + sum_by (held barriers_of) rs ≡ 0
     all = sym (first_held barriers_of r rs) ∙ none
@@ -120,7 +120,7 @@ no_barriers kept g (r ∷ rs) n id none = by_stage (is_finished r.stage) refl (i
     by_test false true c = refl
     by_test false false c = refl
 
-    by_stage : (b : Bool) → is_finished r.stage ≡ b → (barrier : Bool) → is_barrier r.job ≡ barrier → held barriers_of r ≡ 0 → list_all (lets_pass kept id false) (values_of (opens g (n + 1) rs)) ≡ true → list_all (lets_pass kept id false) (values_of (opens g n (r ∷ rs))) ≡ true
+    by_stage : (b : Bool) → is_finished r.stage ≡ b → (barrier : Bool) → is_barrier r.submission ≡ barrier → held barriers_of r ≡ 0 → list_all (lets_pass kept id false) (values_of (opens g (n + 1) rs)) ≡ true → list_all (lets_pass kept id false) (values_of (opens g n (r ∷ rs))) ≡ true
     by_stage true is barrier kind zero_held rest = rw is rest
     by_stage false is true kind zero_held rest = absurd (let h : 1 ≡ 0 = rw (is, kind) at zero_held in omega arith)
-    by_stage false is false kind zero_held rest = rw is (rw kind (rw (by_test (nat_le id n) (not (is_ordered r.job)) (is_settled_now (open_as n r (g n)) (progress_of kept n))) rest))
+    by_stage false is false kind zero_held rest = rw is (rw kind (rw (by_test (nat_le id n) (not (is_ordered r.submission)) (is_settled_now (open_as n r (g n)) (progress_of kept n))) rest))

@@ -5,10 +5,10 @@ use Rattle.std.specs.Bool.{Decides}
 use Rattle.std.proofs.lemmas.Bool.Decides.{nat_tests}
 use Rattle.std.proofs.lemmas.Option.{same_Some}
 use Rattle.blk_base.specs.Options.{Options}
-use Rattle.blk_base.specs.declared.config.Job.{Job}
-use Rattle.blk_base.specs.declared.config.Job.TheVariants as jobs
-use Rattle.schedule_text.specs.declared.line.Refusal.{Refusal}
-use Rattle.schedule_text.specs.declared.line.Refusal.TheVariants as refusal
+use Rattle.blk_base.specs.declared.config.Submission.{Submission}
+use Rattle.blk_base.specs.declared.config.Submission.TheVariants as submissions
+use Rattle.blk_base.specs.declared.refusal.Refusal.{Refusal}
+use Rattle.blk_base.specs.declared.refusal.Refusal.TheVariants as refusal
 use Rattle.schedule_text.specs.declared.line.Line.{Line}
 use Rattle.schedule_text.specs.declared.line.Line.TheVariants as lines
 use Rattle.plain_disk.specs.declared.request.DiskRequest.{DiskRequest}
@@ -23,20 +23,20 @@ use Rattle.request_check.proofs.Runners.{Matches}
 use Rattle.request_check.proofs.Limits.{spent_same, ring_same, frames_same, refusal_is}
 use Rattle.request_check.proofs.Refused.{pick_of, Says, picked, are_both, IsRefusedSo, so}
 
--- ---- what a reason says of the job and the options
-is_read_only : (o : Options) (job : Job) → is_unsupported o job ≡ true → o.read_only ≡ true
-is_read_only o (jobs.Read sector count) h = absurd (cc)
-is_read_only o (jobs.Write sector count tag) h = absurd (cc)
-is_read_only o (jobs.Barrier sector count tag) h = h
-is_read_only o jobs.Flush h = h
-is_read_only o (jobs.Discard sector count) h = h
+-- ---- what a reason says of the submission and the options
+is_read_only : (o : Options) (submission : Submission) → is_unsupported o submission ≡ true → o.read_only ≡ true
+is_read_only o (submissions.Read sector count) h = absurd (cc)
+is_read_only o (submissions.Write sector count tag) h = absurd (cc)
+is_read_only o (submissions.Barrier sector count tag) h = h
+is_read_only o submissions.Flush h = h
+is_read_only o (submissions.Discard sector count) h = h
 
-refuses_writes : (o : Options) (job : Job) → is_refused_write o job ≡ true → o.read_only ≡ true
-refuses_writes o (jobs.Read sector count) h = absurd (cc)
-refuses_writes o (jobs.Write sector count tag) h = h
-refuses_writes o (jobs.Barrier sector count tag) h = absurd (cc)
-refuses_writes o jobs.Flush h = absurd (cc)
-refuses_writes o (jobs.Discard sector count) h = absurd (cc)
+refuses_writes : (o : Options) (submission : Submission) → is_refused_write o submission ≡ true → o.read_only ≡ true
+refuses_writes o (submissions.Read sector count) h = absurd (cc)
+refuses_writes o (submissions.Write sector count tag) h = h
+refuses_writes o (submissions.Barrier sector count tag) h = absurd (cc)
+refuses_writes o submissions.Flush h = absurd (cc)
+refuses_writes o (submissions.Discard sector count) h = absurd (cc)
 
 past_sum : (sectors sector count : ℕ) → sector < 2 ^ 64 → count < 2 ^ 32 → nat_lt sectors (sector + count) ≡ true → nat_lt sectors 18446744078004518910 ≡ true
 past_sum sectors sector count s c h =
@@ -44,12 +44,12 @@ past_sum sectors sector count s c h =
     let bound : sectors < 18446744078004518910 = omega arith in
     grind (arith, nat_tests)
 
-has_end : (o : Options) (job : Job) → CanBeAsked job → is_past_end o job ≡ true → nat_lt o.sectors 18446744078004518910 ≡ true
-has_end o (jobs.Read sector count) asked h = past_sum o.sectors sector count asked.0 asked.2 h
-has_end o (jobs.Write sector count tag) asked h = past_sum o.sectors sector count asked.0 asked.2 h
-has_end o (jobs.Barrier sector count tag) asked h = past_sum o.sectors sector count asked.0 asked.2 h
-has_end o jobs.Flush asked h = past_sum o.sectors 0 0 (omega arith) (omega arith) h
-has_end o (jobs.Discard sector count) asked h = past_sum o.sectors sector count asked.0 asked.2 h
+has_end : (o : Options) (submission : Submission) → CanBeAsked submission → is_past_end o submission ≡ true → nat_lt o.sectors 18446744078004518910 ≡ true
+has_end o (submissions.Read sector count) asked h = past_sum o.sectors sector count asked.0 asked.2 h
+has_end o (submissions.Write sector count tag) asked h = past_sum o.sectors sector count asked.0 asked.2 h
+has_end o (submissions.Barrier sector count tag) asked h = past_sum o.sectors sector count asked.0 asked.2 h
+has_end o submissions.Flush asked h = past_sum o.sectors 0 0 (omega arith) (omega arith) h
+has_end o (submissions.Discard sector count) asked h = past_sum o.sectors sector count asked.0 asked.2 h
 
 within : (sectors sector count : ℕ) → nat_lt sectors (sector + count) ≡ false → count ≤ sectors
 within sectors sector count h = let all : sector + count ≤ sectors = grind (arith, nat_tests) in omega arith
@@ -69,12 +69,12 @@ long_sum least most sectors sector count small c past long =
     let fits : least ≤ min sectors 4294967295 = omega arith in
     grind (arith, nat_tests)
 
-can_be_long : (o : Options) (job : Job) → CanBeAsked job → is_unsupported o job ≡ false → is_past_end o job ≡ false → is_long o job ≡ true → nat_le (least_long o) (min o.sectors 4294967295) ≡ true
-can_be_long o (jobs.Read sector count) asked kind past long = long_sum (least_long o) (max 11 o.indirect) o.sectors sector count (least_small o) asked.2 past long
-can_be_long o (jobs.Write sector count tag) asked kind past long = long_sum (least_long o) (max 11 o.indirect) o.sectors sector count (least_small o) asked.2 past long
-can_be_long o (jobs.Barrier sector count tag) asked kind past long = rw kind (long_sum 89 11 o.sectors sector count (omega arith) asked.2 past long)
-can_be_long o jobs.Flush asked kind past long = absurd (cc)
-can_be_long o (jobs.Discard sector count) asked kind past long = absurd (cc)
+can_be_long : (o : Options) (submission : Submission) → CanBeAsked submission → is_unsupported o submission ≡ false → is_past_end o submission ≡ false → is_long o submission ≡ true → nat_le (least_long o) (min o.sectors 4294967295) ≡ true
+can_be_long o (submissions.Read sector count) asked kind past long = long_sum (least_long o) (max 11 o.indirect) o.sectors sector count (least_small o) asked.2 past long
+can_be_long o (submissions.Write sector count tag) asked kind past long = long_sum (least_long o) (max 11 o.indirect) o.sectors sector count (least_small o) asked.2 past long
+can_be_long o (submissions.Barrier sector count tag) asked kind past long = rw kind (long_sum 89 11 o.sectors sector count (omega arith) asked.2 past long)
+can_be_long o submissions.Flush asked kind past long = absurd (cc)
+can_be_long o (submissions.Discard sector count) asked kind past long = absurd (cc)
 
 or_last : (b : Bool) → (b || true) ≡ true
 or_last true = refl
@@ -85,12 +85,12 @@ some_sectors sectors sector count one past =
     let in_disk : count ≤ sectors = within sectors sector count past in
     grind (arith, nat_tests)
 
-is_taken : (o : Options) (job : Job) → CanBeAsked job → is_unsupported o job ≡ false → is_past_end o job ≡ false → (not o.read_only || not (o.sectors == 0)) ≡ true
-is_taken o (jobs.Read sector count) asked kind past = rw (some_sectors o.sectors sector count asked.1 past) (or_last (not o.read_only))
-is_taken o (jobs.Write sector count tag) asked kind past = rw (some_sectors o.sectors sector count asked.1 past) (or_last (not o.read_only))
-is_taken o (jobs.Barrier sector count tag) asked kind past = rw kind refl
-is_taken o jobs.Flush asked kind past = rw kind refl
-is_taken o (jobs.Discard sector count) asked kind past = rw kind refl
+is_taken : (o : Options) (submission : Submission) → CanBeAsked submission → is_unsupported o submission ≡ false → is_past_end o submission ≡ false → (not o.read_only || not (o.sectors == 0)) ≡ true
+is_taken o (submissions.Read sector count) asked kind past = rw (some_sectors o.sectors sector count asked.1 past) (or_last (not o.read_only))
+is_taken o (submissions.Write sector count tag) asked kind past = rw (some_sectors o.sectors sector count asked.1 past) (or_last (not o.read_only))
+is_taken o (submissions.Barrier sector count tag) asked kind past = rw kind refl
+is_taken o submissions.Flush asked kind past = rw kind refl
+is_taken o (submissions.Discard sector count) asked kind past = rw kind refl
 
 -- ---- frames
 rises : (a b : ℕ) → a ≤ b → (if nat_lt 11 a then a + (a + 511) / 512 else a) ≤ (if nat_lt 11 b then b + (b + 511) / 512 else b)
@@ -120,20 +120,20 @@ at_most o most sector count small c past long =
     let short : count ≤ 8 * max 11 o.indirect = omega arith in
     omega arith
 
-fewer_frames : (o : Options) (job : Job) → CanBeAsked job → is_past_end o job ≡ false → is_long o job ≡ false → frames_of job ≤ frames_of (jobs.Read 0 (most_read o))
-fewer_frames o (jobs.Read sector count) asked past long =
+fewer_frames : (o : Options) (submission : Submission) → CanBeAsked submission → is_past_end o submission ≡ false → is_long o submission ≡ false → frames_of submission ≤ frames_of (submissions.Read 0 (most_read o))
+fewer_frames o (submissions.Read sector count) asked past long =
     let few : count ≤ most_read o = at_most o (max 11 o.indirect) sector count (omega arith) asked.2 past long in
     rises ((count + 7) / 8) ((most_read o + 7) / 8) (omega arith)
-fewer_frames o (jobs.Write sector count tag) asked past long =
+fewer_frames o (submissions.Write sector count tag) asked past long =
     let few : count ≤ most_read o = at_most o (max 11 o.indirect) sector count (omega arith) asked.2 past long in
     rises ((count + 7) / 8) ((most_read o + 7) / 8) (omega arith)
-fewer_frames o (jobs.Barrier sector count tag) asked past long =
+fewer_frames o (submissions.Barrier sector count tag) asked past long =
     let few : count ≤ most_read o = at_most o 11 sector count (omega arith) asked.2 past long in
     let here : (most_read o + 7) / 8 ≤ (if nat_lt 11 ((most_read o + 7) / 8) then (most_read o + 7) / 8 + ((most_read o + 7) / 8 + 511) / 512 else (most_read o + 7) / 8) = no_less ((most_read o + 7) / 8) in
     let segments : (count + 7) / 8 ≤ (most_read o + 7) / 8 = omega arith in
     omega arith
-fewer_frames o jobs.Flush asked past long = omega arith
-fewer_frames o (jobs.Discard sector count) asked past long = omega arith
+fewer_frames o submissions.Flush asked past long = omega arith
+fewer_frames o (submissions.Discard sector count) asked past long = omega arith
 
 more_lack : (s : State) (a b : ℕ) → a ≤ b → are_too_many s a ≡ true → are_too_many s b ≡ true
 more_lack s a b h lacks =
@@ -148,28 +148,28 @@ no_sectors o most sector count small none one c past long =
     let zero_most : most_read o ≡ 0 = grind (arith, nat_tests) in
     absurd (omega arith)
 
-lack_by : (s : State) (o : Options) (job : Job) (b : Bool) → (most_read o == 0) ≡ b → CanBeAsked job → is_unsupported o job ≡ false → is_past_end o job ≡ false → is_long o job ≡ false → are_too_many s (frames_of job) ≡ true
-    → (if b then not o.read_only && are_too_many s 0 else are_too_many s (frames_of (jobs.Read 0 (most_read o)))) ≡ true
-lack_by s o job false is asked kind past long lacks = more_lack s (frames_of job) (frames_of (jobs.Read 0 (most_read o))) (fewer_frames o job asked past long) lacks
-lack_by s o (jobs.Read sector count) true is asked kind past long lacks = no_sectors o (max 11 o.indirect) sector count (omega arith) is asked.1 asked.2 past long
-lack_by s o (jobs.Write sector count tag) true is asked kind past long lacks = no_sectors o (max 11 o.indirect) sector count (omega arith) is asked.1 asked.2 past long
-lack_by s o (jobs.Barrier sector count tag) true is asked kind past long lacks = no_sectors o 11 sector count (omega arith) is asked.1 asked.2 past long
-lack_by s o jobs.Flush true is asked kind past long lacks = rw (kind, lacks) refl
-lack_by s o (jobs.Discard sector count) true is asked kind past long lacks = rw (kind, lacks) refl
+lack_by : (s : State) (o : Options) (submission : Submission) (b : Bool) → (most_read o == 0) ≡ b → CanBeAsked submission → is_unsupported o submission ≡ false → is_past_end o submission ≡ false → is_long o submission ≡ false → are_too_many s (frames_of submission) ≡ true
+    → (if b then not o.read_only && are_too_many s 0 else are_too_many s (frames_of (submissions.Read 0 (most_read o)))) ≡ true
+lack_by s o submission false is asked kind past long lacks = more_lack s (frames_of submission) (frames_of (submissions.Read 0 (most_read o))) (fewer_frames o submission asked past long) lacks
+lack_by s o (submissions.Read sector count) true is asked kind past long lacks = no_sectors o (max 11 o.indirect) sector count (omega arith) is asked.1 asked.2 past long
+lack_by s o (submissions.Write sector count tag) true is asked kind past long lacks = no_sectors o (max 11 o.indirect) sector count (omega arith) is asked.1 asked.2 past long
+lack_by s o (submissions.Barrier sector count tag) true is asked kind past long lacks = no_sectors o 11 sector count (omega arith) is asked.1 asked.2 past long
+lack_by s o submissions.Flush true is asked kind past long lacks = rw (kind, lacks) refl
+lack_by s o (submissions.Discard sector count) true is asked kind past long lacks = rw (kind, lacks) refl
 
 -- ---- the state allows the refusal
-back_by : (s : State) (o : Options) (job : Job) (w : Refusal) → CanBeAsked job
-    → Says w (s.submitted == 4294967295) s.sight.closing s.sight.connected s.sight.broken (is_unsupported o job) (is_refused_write o job) (is_past_end o job) (is_long o job) (is_ring_full s o) (are_too_many s (frames_of job))
+back_by : (s : State) (o : Options) (submission : Submission) (w : Refusal) → CanBeAsked submission
+    → Says w (s.submitted == 4294967295) s.sight.closing s.sight.connected s.sight.broken (is_unsupported o submission) (is_refused_write o submission) (is_past_end o submission) (is_long o submission) (is_ring_full s o) (are_too_many s (frames_of submission))
     → may_refuse s o w ≡ true
-back_by s o job refusal.Spent asked h = h
-back_by s o job refusal.NotReady asked h = rw (h.0, h.1, h.2) refl
-back_by s o job refusal.Closing asked h = rw (h.0, h.1) refl
-back_by s o job refusal.Unsupported asked h = are_both (is_at_work s) o.read_only h.0 (is_read_only o job h.1)
-back_by s o job refusal.ReadOnly asked h = are_both (is_at_work s) o.read_only h.0 (refuses_writes o job h.1)
-back_by s o job refusal.Range asked h = are_both (is_at_work s) (nat_lt o.sectors 18446744078004518910) h.0 (has_end o job asked h.1)
-back_by s o job refusal.Long asked h = are_both (is_at_work s) (nat_le (least_long o) (min o.sectors 4294967295)) h.0 (can_be_long o job asked h.1 h.2 h.3)
-back_by s o job refusal.Full asked h = are_both (is_at_work s && is_ring_full s o) (not o.read_only || not (o.sectors == 0)) (are_both (is_at_work s) (is_ring_full s o) h.0 h.3) (is_taken o job asked h.1 h.2)
-back_by s o job refusal.Buffers asked h = are_both (is_at_work s && not (is_ring_full s o)) (may_lack_frames s o) (are_both (is_at_work s) (not (is_ring_full s o)) h.0 (ap not h.4)) (lack_by s o job (most_read o == 0) refl asked h.1 h.2 h.3 h.5)
+back_by s o submission refusal.Spent asked h = h
+back_by s o submission refusal.NotReady asked h = rw (h.0, h.1, h.2) refl
+back_by s o submission refusal.Closing asked h = rw (h.0, h.1) refl
+back_by s o submission refusal.Unsupported asked h = are_both (is_at_work s) o.read_only h.0 (is_read_only o submission h.1)
+back_by s o submission refusal.ReadOnly asked h = are_both (is_at_work s) o.read_only h.0 (refuses_writes o submission h.1)
+back_by s o submission refusal.Range asked h = are_both (is_at_work s) (nat_lt o.sectors 18446744078004518910) h.0 (has_end o submission asked h.1)
+back_by s o submission refusal.Long asked h = are_both (is_at_work s) (nat_le (least_long o) (min o.sectors 4294967295)) h.0 (can_be_long o submission asked h.1 h.2 h.3)
+back_by s o submission refusal.Full asked h = are_both (is_at_work s && is_ring_full s o) (not o.read_only || not (o.sectors == 0)) (are_both (is_at_work s) (is_ring_full s o) h.0 h.3) (is_taken o submission asked h.1 h.2)
+back_by s o submission refusal.Buffers asked h = are_both (is_at_work s && not (is_ring_full s o)) (may_lack_frames s o) (are_both (is_at_work s) (not (is_ring_full s o)) h.0 (ap not h.4)) (lack_by s o submission (most_read o == 0) refl asked h.1 h.2 h.3 h.5)
 
 back : (s : State) (o : Options) (w : Refusal) → IsRefusedSo s o w → may_refuse s o w ≡ true
 back s o w is = back_by s o is.0 w is.1 (picked w (s.submitted == 4294967295) s.sight.closing s.sight.connected s.sight.broken (is_unsupported o is.0) (is_refused_write o is.0) (is_past_end o is.0) (is_long o is.0) (is_ring_full s o) (are_too_many s (frames_of is.0)) is.2)
@@ -177,14 +177,14 @@ back s o w is = back_by s o is.0 w is.1 (picked w (s.submitted == 4294967295) s.
 -- ---- the rule
 -- there is a submission that is refused so, by what is known of the lines before
 abbrev IsRefusedAt : State → Option Options → List DiskRequest → Refusal → Type 0
-IsRefusedAt s c rs w = (job : Job) × CanBeAsked job × (refusal_at s.sight c rs job ≡ Some w)
+IsRefusedAt s c rs w = (submission : Submission) × CanBeAsked submission × (refusal_at s.sight c rs submission ≡ Some w)
 
 module _ (g : Notes) (s : State) (d : Disk) (f : Follows g s d) where
-  pick_same : (o : Options) (job : Job) → pick_of s o job ≡ refusal_by s.sight o d.requests job
-  pick_same o job = rw (spent_same g s d f, ring_same g s d f o, frames_same g s d f (frames_of job)) refl
+  pick_same : (o : Options) (submission : Submission) → pick_of s o submission ≡ refusal_by s.sight o d.requests submission
+  pick_same o submission = rw (spent_same g s d f, ring_same g s d f o, frames_same g s d f (frames_of submission)) refl
 
   by_options : (c : Option Options) (w : Refusal) → Decides (may_refuse_by s w c) (IsRefusedAt s c d.requests w)
-  by_options None refusal.NotReady = ((λ yes. (jobs.Flush, tt, refl)), (λ is. refl))
+  by_options None refusal.NotReady = ((λ yes. (submissions.Flush, tt, refl)), (λ is. refl))
   by_options None w = ((λ yes. absurd (cc)), (λ is. not_ready w is.2))
     where
       not_ready : (x : Refusal) → Some refusal.NotReady ≡ Some x → is_not_ready x ≡ true

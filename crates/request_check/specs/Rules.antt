@@ -1,11 +1,11 @@
 -- Ten rules on the lines of requests (`io/blkif.h`, `io/xenbus.h`), each over the lines before the line, in the words of the plain disk: whether the front may tell its state, whether a submission and a refusal are by the limits, and whether the plain disk takes the line's step. The disk of a rule is the one after the lines before, of whose sectors nothing is known at first; of lines that are no run of it the rules of its steps say nothing.
 use Rattle.std.specs.Prelude.{◌≡◌, ℕ, ◌+◌, ◌^◌, ◌<◌, Bool, true, false, not, ◌&&◌, ◌||◌, is_none, List, [], fold, length, Option, Some, None, IfSome}
 use Rattle.std.specs.List.{list_all, list_any}
-use Rattle.blk_base.specs.declared.config.Job.{Job}
-use Rattle.blk_base.specs.declared.config.Job.TheVariants as jobs
+use Rattle.blk_base.specs.declared.config.Submission.{Submission}
+use Rattle.blk_base.specs.declared.config.Submission.TheVariants as submissions
 use Rattle.blk_base.specs.declared.operation.Status.{Status}
-use Rattle.schedule_text.specs.declared.line.Halt.{Halt}
-use Rattle.schedule_text.specs.declared.line.Halt.TheVariants as halts
+use Rattle.blk_base.specs.declared.halt.Halt.{Halt}
+use Rattle.blk_base.specs.declared.halt.Halt.TheVariants as halts
 use Rattle.schedule_text.specs.declared.line.Line.{Line}
 use Rattle.schedule_text.specs.declared.line.Line.TheVariants as lines
 use Rattle.plain_disk.specs.declared.request.DiskRequest.{DiskRequest}
@@ -51,31 +51,31 @@ IsStateAt before line = keeps_state (fold seen nothing_seen before) (list_any is
 
 -- a submission has the next number, and nothing refuses it
 abbrev pub IsSubmitAt : List Line → Line → Type 0
-IsSubmitAt before (lines.Submit id job) = (id ≡ length (requests_in (disk_after before)) + 1) × (refusal_of before job ≡ None)
+IsSubmitAt before (lines.Submit id submission) = (id ≡ length (requests_in (disk_after before)) + 1) × (refusal_of before submission ≡ None)
 IsSubmitAt before line = Unit {0}
 
--- a job that a schedule can ask for: its sector has 64 bits, its count is 1 to 4294967295, its tag has 32 bits
-abbrev pub CanBeAsked : Job → Type 0
-CanBeAsked (jobs.Read sector count) = (sector < 2 ^ 64) × (0 < count) × (count < 2 ^ 32)
-CanBeAsked (jobs.Write sector count tag) = (sector < 2 ^ 64) × (0 < count) × (count < 2 ^ 32) × (tag < 2 ^ 32)
-CanBeAsked (jobs.Barrier sector count tag) = (sector < 2 ^ 64) × (0 < count) × (count < 2 ^ 32) × (tag < 2 ^ 32)
-CanBeAsked jobs.Flush = Unit {0}
-CanBeAsked (jobs.Discard sector count) = (sector < 2 ^ 64) × (0 < count) × (count < 2 ^ 32)
+-- a submission that a schedule can ask for: its sector has 64 bits, its count is 1 to 4294967295, its tag has 32 bits
+abbrev pub CanBeAsked : Submission → Type 0
+CanBeAsked (submissions.Read sector count) = (sector < 2 ^ 64) × (0 < count) × (count < 2 ^ 32)
+CanBeAsked (submissions.Write sector count tag) = (sector < 2 ^ 64) × (0 < count) × (count < 2 ^ 32) × (tag < 2 ^ 32)
+CanBeAsked (submissions.Barrier sector count tag) = (sector < 2 ^ 64) × (0 < count) × (count < 2 ^ 32) × (tag < 2 ^ 32)
+CanBeAsked submissions.Flush = Unit {0}
+CanBeAsked (submissions.Discard sector count) = (sector < 2 ^ 64) × (0 < count) × (count < 2 ^ 32)
 
 -- a refusal says why, and not of what: there is a submission that is refused so
 abbrev pub IsRefuseAt : List Line → Line → Type 0
-IsRefuseAt before (lines.Refuse refusal) = (job : Job) × CanBeAsked job × (refusal_of before job ≡ Some refusal)
+IsRefuseAt before (lines.Refuse refusal) = (submission : Submission) × CanBeAsked submission × (refusal_of before submission ≡ Some refusal)
 IsRefuseAt before line = Unit {0}
 
 -- a sector of a write or barrier may be filled now
 abbrev pub may_fill : Disk → ℕ → ℕ → Option DiskRequest → Bool
 may_fill d id index None = false
-may_fill d id index (Some r) = is_write r.job && may_serve d.done id r index
+may_fill d id index (Some r) = is_write r.submission && may_serve d.done id r index
 
 -- a sector of a read may show these words now
 abbrev pub may_show : Disk → ℕ → ℕ → List ℕ → Option DiskRequest → Bool
 may_show d id index words None = false
-may_show d id index words (Some r) = is_read r.job && may_serve d.done id r index && may_hold (place_words d.first d.written r.job index) words
+may_show d id index words (Some r) = is_read r.submission && may_serve d.done id r index && may_hold (place_words d.first d.written r.submission index) words
 
 abbrev pub keeps_effect : Disk → Line → Bool
 keeps_effect d (lines.Effect id index) = may_fill d id index (request_of d.requests id)
@@ -87,9 +87,9 @@ abbrev pub IsEffectRuleAt : List Line → Line → Type 0
 IsEffectRuleAt = OnDisk keeps_effect
 
 -- an operation of this kind that waits for its answer is in the order that the barriers want
-abbrev pub is_ordered_so : (Job → Bool) → Disk → ℕ → Option DiskRequest → Bool
+abbrev pub is_ordered_so : (Submission → Bool) → Disk → ℕ → Option DiskRequest → Bool
 is_ordered_so is_kind d id None = true
-is_ordered_so is_kind d id (Some r) = not (is_kind r.job && is_open r.stage) || is_in_order d id r
+is_ordered_so is_kind d id (Some r) = not (is_kind r.submission && is_open r.stage) || is_in_order d id r
 
 abbrev pub keeps_barrier : Disk → Line → Bool
 keeps_barrier d (lines.Effect id index) = is_ordered_so is_write d id (request_of d.requests id)
@@ -102,12 +102,12 @@ abbrev pub IsBarrierAt : List Line → Line → Type 0
 IsBarrierAt = OnDisk keeps_barrier
 
 -- a place of a request of this kind may be served now
-abbrev pub may_end : (Job → Bool) → Disk → ℕ → ℕ → Option DiskRequest → Bool
+abbrev pub may_end : (Submission → Bool) → Disk → ℕ → ℕ → Option DiskRequest → Bool
 may_end is_kind d id index None = false
-may_end is_kind d id index (Some r) = is_kind r.job && may_serve d.done id r index
+may_end is_kind d id index (Some r) = is_kind r.submission && may_serve d.done id r index
 
-abbrev pub is_any : Job → Bool
-is_any job = true
+abbrev pub is_any : Submission → Bool
+is_any submission = true
 
 abbrev pub keeps_service : Disk → Line → Bool
 keeps_service d (lines.Flushed id) = may_end is_flush d id 0 (request_of d.requests id)

@@ -3,7 +3,7 @@ use Rattle.std.specs.Prelude.{ℕ, ◌+◌, ◌-◌, min, Bool, true, false, ◌
 use Rattle.std.specs.Map.{lookup, set_value, remove_entry}
 use Rattle.std.specs.BTreeMap.{is_at, insert_entry}
 use Rattle.std.specs.Ordering.{nat_cmp}
-use Rattle.blk_base.specs.declared.config.Job.{Job}
+use Rattle.blk_base.specs.declared.config.Submission.{Submission}
 use Rattle.blk_base.specs.declared.operation.Status.{Status}
 use Rattle.schedule_text.specs.declared.line.Line.{Line}
 use Rattle.schedule_text.specs.declared.line.Line.TheVariants as lines
@@ -23,7 +23,7 @@ use Rattle.request_check.specs.Progress.{Progress, changed, with_done, with_faul
 -- a request that isn't finished: its number, what it asks for, how far it is told, and the words that its sectors showed
 pub record Open : Type 0 where
   pub number : ℕ
-  pub job : Job
+  pub submission : Submission
   pub stage : RequestStage
   pub noted : List (ℕ × List ℕ)
 
@@ -44,23 +44,23 @@ start = record { sight = nothing_seen; closed = false; submitted = 0; frames = 0
 abbrev pub open_of : List (ℕ × Open) → ℕ → Option Open
 open_of requests id = lookup (is_at (nat_cmp id)) requests
 
-abbrev pub opened : ℕ → Job → Open
-opened id job = record { number = id; job = job; stage = stages.Open; noted = [] }
+abbrev pub opened : ℕ → Submission → Open
+opened id submission = record { number = id; submission = submission; stage = stages.Open; noted = [] }
 
 -- a count that stays where it is past 64 bits
 abbrev pub capped : ℕ → ℕ
 capped n = min n 18446744073709551615
 
--- how many barriers a job is
-abbrev pub barriers_of : Job → ℕ
-barriers_of job = if is_barrier job then 1 else 0
+-- how many barriers a submission is
+abbrev pub barriers_of : Submission → ℕ
+barriers_of submission = if is_barrier submission then 1 else 0
 
-abbrev pub submitted_to : State → ℕ → Job → State
-submitted_to s id job = record s {
+abbrev pub submitted_to : State → ℕ → Submission → State
+submitted_to s id submission = record s {
   submitted = id;
-  frames = capped (s.frames + frames_of job);
-  barriers = capped (s.barriers + barriers_of job);
-  requests = insert_entry nat_cmp s.requests id (opened id job);
+  frames = capped (s.frames + frames_of submission);
+  barriers = capped (s.barriers + barriers_of submission);
+  requests = insert_entry nat_cmp s.requests id (opened id submission);
 }
 
 abbrev pub with_progress : State → (Progress → Progress) → ℕ → State
@@ -72,7 +72,7 @@ with_open s id o = record s { requests = set_value (is_at (nat_cmp id)) s.reques
 -- a sector was filled
 abbrev pub filled : State → ℕ → ℕ → Option Open → State
 filled s id index None = s
-filled s id index (Some o) = record (with_progress s (with_done index) id) { sectors = with_single s.sectors (sector_of o.job + index) (Some (filling o.job index)) }
+filled s id index (Some o) = record (with_progress s (with_done index) id) { sectors = with_single s.sectors (sector_of o.submission + index) (Some (filling o.submission index)) }
 
 abbrev pub with_note : Open → ℕ → List ℕ → Open
 with_note o index words = record o { noted = with_entry o.noted index words }
@@ -84,47 +84,47 @@ with_old_note o index old = record o { noted = with_old_entry o.noted index old 
 -- a sector showed these words
 abbrev pub shown : State → ℕ → ℕ → List ℕ → Option Open → State
 shown s id index words None = s
-shown s id index words (Some o) = record (with_open (with_progress s (with_done index) id) id (with_note o index words)) { sectors = with_single s.sectors (sector_of o.job + index) (Some words) }
+shown s id index words (Some o) = record (with_open (with_progress s (with_done index) id) id (with_note o index words)) { sectors = with_single s.sectors (sector_of o.submission + index) (Some words) }
 
 abbrev pub flushed : State → ℕ → Option Open → State
 flushed s id None = s
 flushed s id (Some o) = with_progress s (with_done 0) id
 
 -- the sectors of a discard, of which the disk failed or not
-abbrev pub discarded : Job → Bool → Discarded
-discarded job failed = record { sector = sector_of job; count = count_of job; failed = failed }
+abbrev pub discarded : Submission → Bool → Discarded
+discarded submission failed = record { sector = sector_of submission; count = count_of submission; failed = failed }
 
 abbrev pub trimmed : State → ℕ → Option Open → State
 trimmed s id None = s
-trimmed s id (Some o) = record (with_progress s (with_done 0) id) { sectors = with_range s.sectors (discarded o.job false) }
+trimmed s id (Some o) = record (with_progress s (with_done 0) id) { sectors = with_range s.sectors (discarded o.submission false) }
 
 -- what a fault leaves unknown: the sector in hand of a write or barrier, the range of a discard
-abbrev pub lost : Known → Job → ℕ → Known
-lost known job index =
-    if is_write job then with_single known (sector_of job + index) None
-    else (if is_discard job then with_range known (discarded job true)
+abbrev pub lost : Known → Submission → ℕ → Known
+lost known submission index =
+    if is_write submission then with_single known (sector_of submission + index) None
+    else (if is_discard submission then with_range known (discarded submission true)
     else known)
 
 abbrev pub failed : State → ℕ → ℕ → Option Open → State
 failed s id index None = s
-failed s id index (Some o) = record (with_progress s with_fault id) { sectors = lost s.sectors o.job index }
+failed s id index (Some o) = record (with_progress s with_fault id) { sectors = lost s.sectors o.submission index }
 
 abbrev pub replied : State → ℕ → Status → Option Open → State
 replied s id status None = s
 replied s id status (Some o) = with_progress s (with_reply status) id
 
 -- nothing is kept of a request that is finished
-abbrev pub without : State → ℕ → Job → State
-without s id job = record s {
-  frames = s.frames - frames_of job;
-  barriers = s.barriers - barriers_of job;
+abbrev pub without : State → ℕ → Submission → State
+without s id submission = record s {
+  frames = s.frames - frames_of submission;
+  barriers = s.barriers - barriers_of submission;
   requests = remove_entry (is_at (nat_cmp id)) s.requests;
   progress = remove_entry (is_at (nat_cmp id)) s.progress;
 }
 
 -- a request was told further
 abbrev pub told_to : State → ℕ → Open → RequestStage → State
-told_to s id o stage = if is_finished stage then without s id o.job else with_open s id (record o { stage = stage })
+told_to s id o stage = if is_finished stage then without s id o.submission else with_open s id (record o { stage = stage })
 
 abbrev pub told_by : State → ℕ → RequestStage → Option Open → State
 told_by s id stage None = s
@@ -132,15 +132,15 @@ told_by s id stage (Some o) = told_to s id o stage
 
 abbrev pub answered : State → ℕ → Status → Option Open → State
 answered s id status None = s
-answered s id status (Some o) = told_to s id o (told_stage o.job status)
+answered s id status (Some o) = told_to s id o (told_stage o.submission status)
 
 abbrev pub told : State → ℕ → ℕ → Option Open → State
 told s id index None = s
-told s id index (Some o) = told_to s id o (next_stage o.job index)
+told s id index (Some o) = told_to s id o (next_stage o.submission index)
 
 -- the state one line further on, but for what the line shows of the front
 abbrev pub stepped : State → Line → State
-stepped s (lines.Submit id job) = submitted_to s id job
+stepped s (lines.Submit id submission) = submitted_to s id submission
 stepped s (lines.Effect id index) = filled s id index (open_of s.requests id)
 stepped s (lines.EffectRead id index words) = shown s id index words (open_of s.requests id)
 stepped s (lines.Flushed id) = flushed s id (open_of s.requests id)

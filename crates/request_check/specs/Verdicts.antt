@@ -3,12 +3,12 @@ use Rattle.std.specs.Prelude.{ℕ, ◌+◌, ◌*◌, ◌^◌, max, min, Bool, tr
 use Rattle.std.specs.List.{list_all}
 use Rattle.std.specs.Map.{values_of}
 use Rattle.blk_base.specs.Options.{Options}
-use Rattle.blk_base.specs.declared.config.Job.{Job}
-use Rattle.blk_base.specs.declared.config.Job.TheVariants as jobs
+use Rattle.blk_base.specs.declared.config.Submission.{Submission}
+use Rattle.blk_base.specs.declared.config.Submission.TheVariants as submissions
 use Rattle.blk_base.specs.declared.operation.Status.{Status}
 use Rattle.blk_base.specs.declared.operation.Status.TheVariants as status
-use Rattle.schedule_text.specs.declared.line.Refusal.{Refusal}
-use Rattle.schedule_text.specs.declared.line.Refusal.TheVariants as refusal
+use Rattle.blk_base.specs.declared.refusal.Refusal.{Refusal}
+use Rattle.blk_base.specs.declared.refusal.Refusal.TheVariants as refusal
 use Rattle.schedule_text.specs.declared.line.Line.{Line}
 use Rattle.schedule_text.specs.declared.line.Line.TheVariants as lines
 use Rattle.plain_disk.specs.Request.{is_read, is_write, is_barrier, is_flush, is_discard, is_ordered, is_open, places_of, sector_of}
@@ -46,14 +46,14 @@ abbrev pub are_too_many : State → ℕ → Bool
 are_too_many s frames = nat_lt 1000 (s.frames + frames)
 
 -- the limits let a submission pass
-abbrev pub is_within_limits : State → Job → Option Options → Bool
-is_within_limits s job None = false
-is_within_limits s job (Some o) =
-    is_at_work s && not (is_unsupported o job) && not (is_refused_write o job) && not (is_past_end o job) && not (is_long o job)
-    && not (is_ring_full s o) && not (are_too_many s (frames_of job))
+abbrev pub is_within_limits : State → Submission → Option Options → Bool
+is_within_limits s submission None = false
+is_within_limits s submission (Some o) =
+    is_at_work s && not (is_unsupported o submission) && not (is_refused_write o submission) && not (is_past_end o submission) && not (is_long o submission)
+    && not (is_ring_full s o) && not (are_too_many s (frames_of submission))
 
 abbrev pub allows_submit : State → Line → Bool
-allows_submit s (lines.Submit id job) = (id == s.submitted + 1) && is_within_limits s job s.sight.config
+allows_submit s (lines.Submit id submission) = (id == s.submitted + 1) && is_within_limits s submission s.sight.config
 allows_submit s line = true
 
 -- the fewest sectors that are more than one request may have: a barrier's, or a read's where there are no barriers
@@ -69,7 +69,7 @@ abbrev pub may_lack_frames : State → Options → Bool
 may_lack_frames s o =
     if most_read o == 0
     then not o.read_only && are_too_many s 0
-    else are_too_many s (frames_of (jobs.Read 0 (most_read o)))
+    else are_too_many s (frames_of (submissions.Read 0 (most_read o)))
 
 -- a submission can be refused so, where a number is left, by the options of the run
 abbrev pub may_refuse : State → Options → Refusal → Bool
@@ -97,15 +97,15 @@ allows_refuse s line = true
 
 -- a place of an open request may be served now
 abbrev pub may_serve_now : Open → Progress → ℕ → Bool
-may_serve_now o p index = is_open o.stage && is_none p.reply && not p.faulted && nat_lt index (places_of o.job) && not (is_place_done p index)
+may_serve_now o p index = is_open o.stage && is_none p.reply && not p.faulted && nat_lt index (places_of o.submission) && not (is_place_done p index)
 
-abbrev pub may_end_now : (Job → Bool) → State → ℕ → ℕ → Option Open → Bool
+abbrev pub may_end_now : (Submission → Bool) → State → ℕ → ℕ → Option Open → Bool
 may_end_now is_kind s id index None = false
-may_end_now is_kind s id index (Some o) = is_kind o.job && may_serve_now o (progress_of s.progress id) index
+may_end_now is_kind s id index (Some o) = is_kind o.submission && may_serve_now o (progress_of s.progress id) index
 
 abbrev pub may_show_now : State → ℕ → ℕ → List ℕ → Option Open → Bool
 may_show_now s id index words None = false
-may_show_now s id index words (Some o) = is_read o.job && may_serve_now o (progress_of s.progress id) index && may_hold (words_in s.sectors (sector_of o.job + index)) words
+may_show_now s id index words (Some o) = is_read o.submission && may_serve_now o (progress_of s.progress id) index && may_hold (words_in s.sectors (sector_of o.submission + index)) words
 
 abbrev pub allows_effect : State → Line → Bool
 allows_effect s (lines.Effect id index) = may_end_now is_write s id index (open_of s.requests id)
@@ -114,19 +114,19 @@ allows_effect s line = true
 
 -- what waits for an open request may go on
 abbrev pub is_settled_now : Open → Progress → Bool
-is_settled_now o p = not (is_open o.stage) || is_some p.reply || p.faulted || length p.done == places_of o.job
+is_settled_now o p = not (is_open o.stage) || is_some p.reply || p.faulted || length p.done == places_of o.submission
 
 -- an open request isn't waited for by request `id`, which is a barrier or not
 abbrev pub lets_pass : List (ℕ × Progress) → ℕ → Bool → Open → Bool
-lets_pass kept id barrier o = nat_le id o.number || not (is_ordered o.job) || not (barrier || is_barrier o.job) || is_settled_now o (progress_of kept o.number)
+lets_pass kept id barrier o = nat_le id o.number || not (is_ordered o.submission) || not (barrier || is_barrier o.submission) || is_settled_now o (progress_of kept o.number)
 
 -- no unfinished request is waited for by request `id`; where no barrier is among them, and it is none, nothing is
 abbrev pub all_pass : State → ℕ → Bool → Bool
 all_pass s id barrier = (not barrier && s.barriers == 0) || list_all (lets_pass s.progress id barrier) (values_of s.requests)
 
-abbrev pub is_in_turn : (Job → Bool) → State → ℕ → Option Open → Bool
+abbrev pub is_in_turn : (Submission → Bool) → State → ℕ → Option Open → Bool
 is_in_turn is_kind s id None = true
-is_in_turn is_kind s id (Some r) = not (is_kind r.job && is_open r.stage) || all_pass s id (is_barrier r.job)
+is_in_turn is_kind s id (Some r) = not (is_kind r.submission && is_open r.stage) || all_pass s id (is_barrier r.submission)
 
 abbrev pub allows_barrier : State → Line → Bool
 allows_barrier s (lines.Effect id index) = is_in_turn is_write s id (open_of s.requests id)
@@ -142,7 +142,7 @@ allows_service s line = true
 
 -- a reply may say this now
 abbrev pub may_say : Open → Progress → Status → Bool
-may_say o p status.Okay = length p.done == places_of o.job
+may_say o p status.Okay = length p.done == places_of o.submission
 may_say o p status.Error = p.faulted
 may_say o p status.Unsupported = false
 

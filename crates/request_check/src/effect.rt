@@ -10,23 +10,23 @@ use crate::open::OpenRequest;
 use crate::progress::{Doing, EpochDoings};
 use crate::state::RequestCheck;
 use crate::words::{Discarded, KnownWords};
-use blk_base::{Job, OutOfMemory, SectorWords, Status};
+use blk_base::{OutOfMemory, SectorWords, Status, Submission};
 use plain_disk::{count_of, filling, is_discard, is_write, sector_of};
 
 // The sector of a request's place.
-pub(crate) fn place_sector(job: &Job, index: u32) -> u128
-    ensures { result ≡ sector_of job.now + index }
+pub(crate) fn place_sector(submission: &Submission, index: u32) -> u128
+    ensures { result ≡ sector_of submission.now + index }
 {
-    u128::from(sector_of(job)) + u128::from(index)
+    u128::from(sector_of(submission)) + u128::from(index)
 }
 
 // The sectors of a discard, of which the disk failed or not.
-fn discarded(job: &Job, failed: bool) -> Discarded
-    ensures { result ≡ discarded job.now failed }
+fn discarded(submission: &Submission, failed: bool) -> Discarded
+    ensures { result ≡ discarded submission.now failed }
 {
     Discarded {
-        sector: sector_of(job),
-        count: count_of(job),
+        sector: sector_of(submission),
+        count: count_of(submission),
         failed,
     }
 }
@@ -85,9 +85,9 @@ fn show_sector(
 ) -> Result<(), OutOfMemory>
     ensures told { Becomes (with_note request.old index words.now) result request.old request.new }
     ensures noted { Becomes (changed (with_done index) progress.old id) result progress.old progress.new }
-    ensures set { Becomes (with_single sectors.old (sector_of request.old.job + index) (Some words.now)) result sectors.old sectors.new }
+    ensures set { Becomes (with_single sectors.old (sector_of request.old.submission + index) (Some words.now)) result sectors.old sectors.new }
 {
-    let sector = place_sector(&request.job(), index);
+    let sector = place_sector(&request.submission(), index);
     let old = request.noted(index);
     request.note(index, words)?;
     let shown = set_sector(
@@ -108,11 +108,11 @@ impl RequestCheck {
     pub(crate) fn fill(&mut self, id: u64, index: u32) -> Result<(), OutOfMemory>
         ensures done { Becomes (filled self.old id index (open_of self.old.requests id)) result self.old self.new }
     {
-        let Some(job) = self.job_of(id) else {
+        let Some(submission) = self.job_of(id) else {
             return Ok(());
         };
-        let sector = place_sector(&job, index);
-        let words = Some(filling(&job, index));
+        let sector = place_sector(&submission, index);
+        let words = Some(filling(&submission, index));
         let doing = Doing::Done(index);
         set_sector(
             &mut self.progress,
@@ -157,10 +157,10 @@ impl RequestCheck {
     pub(crate) fn trim(&mut self, id: u64) -> Result<(), OutOfMemory>
         ensures done { Becomes (trimmed self.old id (open_of self.old.requests id)) result self.old self.new }
     {
-        let Some(job) = self.job_of(id) else {
+        let Some(submission) = self.job_of(id) else {
             return Ok(());
         };
-        let range = discarded(&job, false);
+        let range = discarded(&submission, false);
         set_range(
             &mut self.progress,
             &mut self.sectors,
@@ -173,12 +173,12 @@ impl RequestCheck {
     pub(crate) fn fail(&mut self, id: u64, index: u32) -> Result<(), OutOfMemory>
         ensures done { Becomes (failed self.old id index (open_of self.old.requests id)) result self.old self.new }
     {
-        let Some(job) = self.job_of(id) else {
+        let Some(submission) = self.job_of(id) else {
             return Ok(());
         };
         let doing = Doing::Failed;
-        if is_write(&job) {
-            let sector = place_sector(&job, index);
+        if is_write(&submission) {
+            let sector = place_sector(&submission, index);
             let unknown = None;
             set_sector(
                 &mut self.progress,
@@ -188,8 +188,8 @@ impl RequestCheck {
                 sector,
                 unknown,
             )
-        } else if is_discard(&job) {
-            let range = discarded(&job, true);
+        } else if is_discard(&submission) {
+            let range = discarded(&submission, true);
             set_range(&mut self.progress, &mut self.sectors, id, doing, range)
         } else {
             self.progress.note(id, doing)

@@ -4,7 +4,7 @@ ghost use Rattle.blk_base.specs.Becomes.{Becomes};
 ghost use Rattle.request_check.specs.Entries.{entry_at};
 ghost use Rattle.request_check.specs.State.{opened, with_note, with_old_note};
 
-use blk_base::{Job, OutOfMemory, SectorWords};
+use blk_base::{OutOfMemory, SectorWords, Submission};
 use plain_disk::RequestStage;
 use std::alloc::Global;
 use std::collections::BTreeMap;
@@ -15,7 +15,7 @@ use std::marker::Model;
 #[derive(Drop)]
 pub struct OpenRequest {
     number: u64,
-    job: Job,
+    submission: Submission,
     stage: RequestStage,
     noted: BTreeMap<u32, SectorWords>,
 }
@@ -25,17 +25,17 @@ impl Model for OpenRequest {
 
     ghost Value = { Open };
 
-    ghost view = { λ o. record { number = o.number; job = o.job; stage = o.stage; noted = o.noted.entries } };
+    ghost view = { λ o. record { number = o.number; submission = o.submission; stage = o.stage; noted = o.noted.entries } };
 }
 
 impl OpenRequest {
     /// A request that was just submitted.
-    pub fn new(alloc: Global, number: u64, job: Job) -> OpenRequest
-        ensures { result ≡ opened number job }
+    pub fn new(alloc: Global, number: u64, submission: Submission) -> OpenRequest
+        ensures { result ≡ opened number submission }
     {
         OpenRequest {
             number,
-            job,
+            submission,
             stage: RequestStage::Open,
             noted: BTreeMap::new(alloc),
         }
@@ -49,10 +49,10 @@ impl OpenRequest {
     }
 
     /// What it asks for.
-    pub fn job(&self) -> Job
-        ensures { result ≡ self.now.job }
+    pub fn submission(&self) -> Submission
+        ensures { result ≡ self.now.submission }
     {
-        self.job
+        self.submission
     }
 
     /// How far it is told.

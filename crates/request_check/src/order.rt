@@ -21,7 +21,7 @@ fn is_settled(request: &OpenRequest, doings: Option<&Doings>) -> bool
     if !is_open(request.stage()) {
         return true;
     }
-    let places = places_of(&request.job()) as usize;
+    let places = places_of(&request.submission()) as usize;
     match doings {
         None => places == 0,
         Some(doings) => { doings.reply().is_some() || doings.faulted() || doings.count() == places }
@@ -32,10 +32,10 @@ fn is_settled(request: &OpenRequest, doings: Option<&Doings>) -> bool
 fn lets_pass(kept: &EpochDoings, id: u64, barrier: bool, request: &OpenRequest) -> bool
     ensures { result ≡ lets_pass kept.now id barrier request.now }
 {
-    let job = request.job();
+    let submission = request.submission();
     request.number() >= id
-        || !is_ordered(&job)
-        || !barrier && !is_barrier(&job)
+        || !is_ordered(&submission)
+        || !barrier && !is_barrier(&submission)
         || is_settled(request, kept.get(request.number()))
 }
 
@@ -64,8 +64,9 @@ impl RequestCheck {
         match self.requests.get(&id) {
             None => true,
             Some(request) => {
-                let job = request.job();
-                !(is_write(&job) && is_open(request.stage())) || self.all_pass(id, is_barrier(&job))
+                let submission = request.submission();
+                !(is_write(&submission) && is_open(request.stage()))
+                    || self.all_pass(id, is_barrier(&submission))
             }
         }
     }
@@ -76,9 +77,9 @@ impl RequestCheck {
         match self.requests.get(&id) {
             None => true,
             Some(request) => {
-                let job = request.job();
-                !(is_discard(&job) && is_open(request.stage()))
-                    || self.all_pass(id, is_barrier(&job))
+                let submission = request.submission();
+                !(is_discard(&submission) && is_open(request.stage()))
+                    || self.all_pass(id, is_barrier(&submission))
             }
         }
     }
@@ -89,9 +90,9 @@ impl RequestCheck {
         match self.requests.get(&id) {
             None => true,
             Some(request) => {
-                let job = request.job();
-                !(is_ordered(&job) && is_open(request.stage()))
-                    || self.all_pass(id, is_barrier(&job))
+                let submission = request.submission();
+                !(is_ordered(&submission) && is_open(request.stage()))
+                    || self.all_pass(id, is_barrier(&submission))
             }
         }
     }

@@ -3,9 +3,9 @@ ghost use Rattle.std.specs.Prelude.{◌≡◌, ◌*◌, ◌==◌, max, nat_lt, S
 ghost use Rattle.request_check.specs.Verdicts.{is_at_work, is_ring_full, are_too_many, is_within_limits, allows_submit, least_long, most_read, may_lack_frames, may_refuse, allows_refuse};
 
 use crate::state::RequestCheck;
-use blk_base::{Config, Job, SectorCount};
+use blk_base::{Config, Refusal, SectorCount, Submission};
 use plain_disk::{frames_of, is_long, is_past_end, is_refused_write, is_unsupported};
-use schedule_text::{Line, Refusal};
+use schedule_text::Line;
 
 // The most sectors that one indirect request, or a direct one, may read.
 fn most_sectors(config: &Config) -> u64
@@ -67,16 +67,16 @@ impl RequestCheck {
         self.frames.saturating_add(u64::from(frames)) > 1000
     }
 
-    fn is_within_limits(&self, config: &Config, job: &Job) -> bool
-        ensures { result ≡ is_within_limits self.now job.now (Some config.now) }
+    fn is_within_limits(&self, config: &Config, submission: &Submission) -> bool
+        ensures { result ≡ is_within_limits self.now submission.now (Some config.now) }
     {
         self.is_at_work()
-            && !is_unsupported(config, job)
-            && !is_refused_write(config, job)
-            && !is_past_end(config, job)
-            && !is_long(config, job)
+            && !is_unsupported(config, submission)
+            && !is_refused_write(config, submission)
+            && !is_past_end(config, submission)
+            && !is_long(config, submission)
             && !self.is_ring_full(config)
-            && !self.are_too_many(frames_of(job))
+            && !self.are_too_many(frames_of(submission))
     }
 
     /// Whether a submission has the next number, and nothing refuses it.
@@ -84,10 +84,10 @@ impl RequestCheck {
         ensures { result ≡ allows_submit self.now line.now }
     {
         match *line {
-            Line::Submit { id, job } => match &self.sight.config {
+            Line::Submit { id, submission } => match &self.sight.config {
                 None => false,
                 Some(config) => {
-                    id > 0 && id - 1 == self.submitted && self.is_within_limits(config, &job)
+                    id > 0 && id - 1 == self.submitted && self.is_within_limits(config, &submission)
                 }
             },
             _ => true,
@@ -100,7 +100,7 @@ impl RequestCheck {
     {
         match SectorCount::new(most_read(config)) {
             None => !config.read_only && self.are_too_many(0),
-            Some(count) => self.are_too_many(frames_of(&Job::Read { sector: 0, count })),
+            Some(count) => self.are_too_many(frames_of(&Submission::Read { sector: 0, count })),
         }
     }
 

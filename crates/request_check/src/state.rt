@@ -6,7 +6,7 @@ ghost use Rattle.request_check.specs.State.{Open, start, open_of, barriers_of, s
 use crate::open::OpenRequest;
 use crate::progress::EpochDoings;
 use crate::words::KnownWords;
-use blk_base::{Job, OutOfMemory, Status};
+use blk_base::{OutOfMemory, Status, Submission};
 use plain_disk::{RequestStage, Sight, frames_of, is_barrier, is_finished, next_stage, told_stage};
 use schedule_text::Line;
 use std::alloc::Global;
@@ -46,11 +46,11 @@ impl Model for RequestCheck {
     } };
 }
 
-// How many barriers a job is.
-fn barriers_of(job: &Job) -> u64
-    ensures { result ≡ barriers_of job.now }
+// How many barriers a submission is.
+fn barriers_of(submission: &Submission) -> u64
+    ensures { result ≡ barriers_of submission.now }
 {
-    if is_barrier(job) { 1 } else { 0 }
+    if is_barrier(submission) { 1 } else { 0 }
 }
 
 impl RequestCheck {
@@ -72,35 +72,35 @@ impl RequestCheck {
     }
 
     // What an open request asks for.
-    pub(crate) fn job_of(&self, id: u64) -> Option<Job>
-        ensures { result ≡ option_map (λ (o : Open). o.job) (open_of self.now.requests id) }
+    pub(crate) fn job_of(&self, id: u64) -> Option<Submission>
+        ensures { result ≡ option_map (λ (o : Open). o.submission) (open_of self.now.requests id) }
     {
         match self.requests.get(&id) {
             None => None,
-            Some(o) => Some(o.job()),
+            Some(o) => Some(o.submission()),
         }
     }
 
-    fn submit(&mut self, id: u64, job: &Job) -> Result<(), OutOfMemory>
-        ensures done { Becomes (submitted_to self.old id job.now) result self.old self.new }
+    fn submit(&mut self, id: u64, submission: &Submission) -> Result<(), OutOfMemory>
+        ensures done { Becomes (submitted_to self.old id submission.now) result self.old self.new }
     {
-        let open = OpenRequest::new(self.alloc, id, *job);
+        let open = OpenRequest::new(self.alloc, id, *submission);
         match self.requests.insert(id, open) {
             Ok(_) => {}
             Err(_) => return Err(OutOfMemory),
         }
         self.submitted = id;
-        self.frames = self.frames.saturating_add(u64::from(frames_of(job)));
-        self.barriers = self.barriers.saturating_add(barriers_of(job));
+        self.frames = self.frames.saturating_add(u64::from(frames_of(submission)));
+        self.barriers = self.barriers.saturating_add(barriers_of(submission));
         Ok(())
     }
 
     // Nothing is kept of a request that is finished.
-    fn forget(&mut self, id: u64, job: &Job)
-        ensures { self.new ≡ without self.old id job.now }
+    fn forget(&mut self, id: u64, submission: &Submission)
+        ensures { self.new ≡ without self.old id submission.now }
     {
-        self.frames = self.frames.saturating_sub(u64::from(frames_of(job)));
-        self.barriers = self.barriers.saturating_sub(barriers_of(job));
+        self.frames = self.frames.saturating_sub(u64::from(frames_of(submission)));
+        self.barriers = self.barriers.saturating_sub(barriers_of(submission));
         self.requests.remove(&id);
         self.progress.remove(id);
     }
@@ -109,11 +109,11 @@ impl RequestCheck {
     fn tell(&mut self, id: u64, stage: RequestStage)
         ensures { self.new ≡ told_by self.old id stage (open_of self.old.requests id) }
     {
-        let Some(job) = self.job_of(id) else {
+        let Some(submission) = self.job_of(id) else {
             return;
         };
         if is_finished(stage) {
-            self.forget(id, &job);
+            self.forget(id, &submission);
         } else if let Some(open) = self.requests.get_mut(&id) {
             open.tell(stage);
         }
@@ -122,16 +122,16 @@ impl RequestCheck {
     fn answer(&mut self, id: u64, status: Status)
         ensures { self.new ≡ answered self.old id status (open_of self.old.requests id) }
     {
-        if let Some(job) = self.job_of(id) {
-            self.tell(id, told_stage(&job, status));
+        if let Some(submission) = self.job_of(id) {
+            self.tell(id, told_stage(&submission, status));
         }
     }
 
     fn tell_sector(&mut self, id: u64, index: u32)
         ensures { self.new ≡ told self.old id index (open_of self.old.requests id) }
     {
-        if let Some(job) = self.job_of(id) {
-            self.tell(id, next_stage(&job, index));
+        if let Some(submission) = self.job_of(id) {
+            self.tell(id, next_stage(&submission, index));
         }
     }
 
@@ -140,7 +140,7 @@ impl RequestCheck {
         ensures done { Becomes (stepped self.old line.now) result self.old self.new }
     {
         match line {
-            Line::Submit { id, job } => self.submit(*id, job),
+            Line::Submit { id, submission } => self.submit(*id, submission),
             Line::Effect { id, index } => self.fill(*id, *index),
             Line::EffectRead { id, index, words } => self.show(*id, *index, words),
             Line::Flushed { id } => self.flush(*id),

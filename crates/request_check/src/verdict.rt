@@ -11,12 +11,12 @@ use crate::effect::place_sector;
 use crate::open::OpenRequest;
 use crate::progress::Doings;
 use crate::state::RequestCheck;
-use blk_base::{SectorWords, Status};
+use blk_base::{Halt, SectorWords, Status};
 use plain_disk::{
     are_noted, is_discard, is_flush, is_next, is_open, is_read, is_status, is_write, may_hold,
     places_of,
 };
-use schedule_text::{Halt, Line};
+use schedule_text::Line;
 
 fn is_gone(halt: &Halt) -> bool
     ensures { result ≡ is_gone halt.now }
@@ -28,7 +28,7 @@ fn is_gone(halt: &Halt) -> bool
 fn may_serve(request: &OpenRequest, doings: Option<&Doings>, index: u32) -> bool
     ensures { result ≡ may_serve_now request.now (unwrap_or (option_copied doings.entry) nothing_done) index }
 {
-    if !is_open(request.stage()) || index >= places_of(&request.job()) {
+    if !is_open(request.stage()) || index >= places_of(&request.submission()) {
         return false;
     }
     match doings {
@@ -41,7 +41,7 @@ fn may_serve(request: &OpenRequest, doings: Option<&Doings>, index: u32) -> bool
 fn may_say(request: &OpenRequest, doings: Option<&Doings>, status: Status) -> bool
     ensures { result ≡ may_say request.now (unwrap_or (option_copied doings.entry) nothing_done) status }
 {
-    let places = places_of(&request.job()) as usize;
+    let places = places_of(&request.submission()) as usize;
     match (status, doings) {
         (Status::Okay, None) => places == 0,
         (Status::Okay, Some(doings)) => doings.count() == places,
@@ -90,7 +90,7 @@ impl RequestCheck {
     {
         match self.requests.get(&id) {
             None => false,
-            Some(request) => is_write(&request.job())
+            Some(request) => is_write(&request.submission())
                 && may_serve(request, self.progress.get(id), index),
         }
     }
@@ -101,7 +101,7 @@ impl RequestCheck {
     {
         match self.requests.get(&id) {
             None => false,
-            Some(request) => is_flush(&request.job())
+            Some(request) => is_flush(&request.submission())
                 && may_serve(request, self.progress.get(id), 0),
         }
     }
@@ -112,7 +112,7 @@ impl RequestCheck {
     {
         match self.requests.get(&id) {
             None => false,
-            Some(request) => is_discard(&request.job())
+            Some(request) => is_discard(&request.submission())
                 && may_serve(request, self.progress.get(id), 0),
         }
     }
@@ -134,10 +134,10 @@ impl RequestCheck {
         match self.requests.get(&id) {
             None => false,
             Some(request) => {
-                let job = request.job();
-                is_read(&job)
+                let submission = request.submission();
+                is_read(&submission)
                     && may_serve(request, self.progress.get(id), index)
-                    && may_hold(&self.sectors.words(place_sector(&job, index)), words)
+                    && may_hold(&self.sectors.words(place_sector(&submission, index)), words)
             }
         }
     }

@@ -71,7 +71,7 @@ impl<T: Numbered + Drop> Shadow<T> {
     /// where the id has more than 32 bits.
     ///
     /// It takes a number of steps that is logarithmic in the number of those held.
-    pub fn place_among(&self, first: usize, id: u64) -> Option<usize>
+    pub fn find(&self, first: usize, id: u64) -> Option<usize>
         requires { first ≤ length self.now.held }
         ensures place { result ≡ place_of T.number_of id (take first self.now.held) }
         ensures within { IfSome result (λ place. place < length self.now.held) }
@@ -87,7 +87,7 @@ impl<T: Numbered + Drop> Shadow<T> {
     }
 
     /// Holds the request at this place no longer, and hands it out. Those after it move down by one place in memory.
-    pub fn remove(&mut self, place: usize) -> T
+    pub fn finish(&mut self, place: usize) -> T
         requires { place < length self.old.held }
         ensures value { result ≡ slice_index_or self.old.held place result }
         ensures rest { self.new.held ≡ remove self.old.held place }
@@ -111,7 +111,7 @@ impl<T: Numbered + Drop> Shadow<T> {
     }
 
     /// The requests that are held, in order of number.
-    pub fn as_slice(&self) -> &[T]
+    pub fn in_order(&self) -> &[T]
         ensures held { result.now ≡ self.now.held }
         ensures ascending { IsAscending T.number_of self.now.held }
     {

@@ -4,7 +4,7 @@ use Rattle.blk_base.specs.declared.moves.BackMover.TheVariants as back
 use Rattle.blk_base.specs.declared.moves.Move.TheVariants as moves
 use Rattle.ring_words.specs.Shape.{Shape, entries_of, ring_word_of}
 use Rattle.ring_words.specs.Ring.{requests_of}
-use Rattle.schedule_text.specs.declared.line.Halt.TheVariants as halts
+use Rattle.blk_base.specs.declared.halt.Halt.TheVariants as halts
 use Rattle.schedule_text.specs.declared.line.Line.{Line}
 use Rattle.schedule_text.specs.declared.line.Line.TheVariants as lines
 use Rattle.report_rules.specs.declared.standing.Standing.{Standing}

@@ -5,10 +5,10 @@ ghost use Rattle.ring_check.specs.State.{index_seen};
 ghost use Rattle.ring_check.specs.Verdict.{unconsumed_seen, is_next, is_next_read, is_between, touched_on, is_in_page, allows_stretch, is_halt_of, allows_overrun};
 
 use crate::sight::RingSight;
-use blk_base::{BackMover, Idx, Move};
+use blk_base::{BackMover, Halt, Idx, Move};
 use report_rules::{Overrun, is_back_move, is_service};
 use ring_words::RingShape;
-use schedule_text::{Halt, Line};
+use schedule_text::Line;
 
 fn is_in_page(word: Option<u32>) -> bool
     ensures { result ≡ is_in_page word }
@@ -23,8 +23,8 @@ fn is_halt_of(overrun: Option<Overrun>, line: &Line) -> bool
     ensures { result ≡ is_halt_of overrun line.now }
 {
     match (overrun, line) {
-        (Some(o), Line::Halt(Halt::Overrun { produced, replied })) => {
-            *produced == o.produced && *replied == o.replied
+        (Some(o), Line::Halt(Halt::Overrun { prod, rsp_prod })) => {
+            *prod == o.produced && *rsp_prod == o.replied
         }
         (None, Line::Halt(Halt::Overrun { .. })) => false,
         (Some(_), _) => false,

@@ -10,7 +10,7 @@ use Rattle.schedule_text.specs.declared.line.Line.TheVariants as lines
 use Rattle.report_rules.specs.Standing.{this_epoch}
 use Rattle.report_rules.specs.Ring.{page_made, start_told, start_of, replied_after, produced_after, abi_after}
 use Rattle.report_rules.proofs.Back.{epoch_more}
-use Rattle.blk_back.specs.declared.told.Halt.TheVariants as halt
+use Rattle.blk_base.specs.declared.halt.Halt.TheVariants as halt
 use Rattle.blk_back.specs.Step.{halts}
 use Rattle.blk_back.specs.View.{new_of}
 use Rattle.ring_laws.proofs.Sight.{is_touch}

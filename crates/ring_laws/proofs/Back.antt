@@ -25,14 +25,13 @@ use Rattle.ring_words.specs.Shape.{entry_words_of}
 use Rattle.schedule_text.specs.declared.line.Line.{Line}
 use Rattle.schedule_text.specs.declared.line.Line.TheVariants as lines
 use Rattle.report_rules.specs.declared.standing.Standing.{Standing}
-use Rattle.blk_back.specs.declared.told.Halt.{Halt}
-use Rattle.blk_back.specs.declared.told.Halt.TheVariants as halt
+use Rattle.blk_base.specs.declared.halt.Halt.{Halt}
+use Rattle.blk_base.specs.declared.halt.Halt.TheVariants as halt
 use Rattle.blk_back.specs.declared.stage.BackStage.{BackStage}
 use Rattle.blk_back.specs.declared.stage.BackStage.TheVariants as stage
 use Rattle.blk_back.specs.View.{View, page_of, slot_page, slot_word}
 use Rattle.blk_back.specs.Ask.{next_gref}
 use Rattle.blk_back.specs.Step.{unbound, bound, looked, loop_word, fetched, step_at}
-use Rattle.split_model.specs.Shown.{halt_line}
 use Rattle.ring_laws.specs.Layout.{reads_protocol}
 use Rattle.ring_laws.proofs.Lists.{AreApart, apart_push}
 use Rattle.ring_laws.proofs.Sight.{is_other, other_touch, untouched_produced, untouched_word}
@@ -49,9 +48,9 @@ abbrev pub Goes : ℕ → List ℕ → List Line → BackStage → View → Back
 Goes start values before s v a = BackGoes start values before v (step_at s v a.answer) a.answer a.shown
 
 -- the back halts, for another reason than an overrun
-pub halt_follows : (before : List Line) (new : View) (x : Sight) (h : Halt) (over : Bool) → new.halted ≡ Some h → is_overrun (lines.Halt (halt_line h)) ≡ false → Knows x new → IsWhole x → Shows before x → ObeysRing before x.start over → Follows x.start x.values (before ++ lines.Halt (halt_line h) ∷ []) new
+pub halt_follows : (before : List Line) (new : View) (x : Sight) (h : Halt) (over : Bool) → new.halted ≡ Some h → is_overrun (lines.Halt h) ≡ false → Knows x new → IsWhole x → Shows before x → ObeysRing before x.start over → Follows x.start x.values (before ++ lines.Halt h ∷ []) new
 halt_follows before new x h over halted plain knows whole shows stands =
-    let line : Line = lines.Halt (halt_line h) in
+    let line : Line = lines.Halt h in
     let more : ObeysRing (before ++ line ∷ []) x.start true =
     ring_more before line x.start true (record { overruns = stands.overruns; stretches = stands.stretches; named = stands.named; last = stands.last; halted = λ overran. refl }) refl (shows_none before line refl) (λ over. refl) plain (λ read. absurd (cc)) (λ small. own_stretch before line x shows whole refl tt) in
     record {
@@ -65,14 +64,14 @@ halt_follows before new x h over halted plain knows whole shows stands =
     }
 
 -- it does so at a move that touches no word, as long as it ran
-halts_by : (before : List Line) (old new : View) (answer : BackAnswer) (shown : Move) (x : Sight) (h : Halt) → old.halted ≡ None → new.told ≡ None → new.halted ≡ Some h → is_overrun (lines.Halt (halt_line h)) ≡ false → Knows x new → IsWhole x → is_other (lines.Move shown) ≡ true → reads_protocol (lines.Move shown) ≡ false
+halts_by : (before : List Line) (old new : View) (answer : BackAnswer) (shown : Move) (x : Sight) (h : Halt) → old.halted ≡ None → new.told ≡ None → new.halted ≡ Some h → is_overrun (lines.Halt h) ≡ false → Knows x new → IsWhole x → is_other (lines.Move shown) ≡ true → reads_protocol (lines.Move shown) ≡ false
     → Shows before x → ObeysRing before x.start (is_some old.halted) → BackGoes x.start x.values before old new answer shown
 halts_by before old new answer shown x h running told halted plain knows whole other unnamed shows stands =
     let still = other_touch (lines.Move shown) other in
     let one : ObeysRing (before ++ lines.Move shown ∷ []) x.start (is_some old.halted) = served_line before x old.halted shown running stands (shows_none before (lines.Move shown) (untouched_produced before (lines.Move shown) still)) unnamed
     (λ small. own_stretch before (lines.Move shown) x shows whole (untouched_word before (lines.Move shown) still) (untouched_inside before (lines.Move shown) still)) in
     halting x.start x.values before old new answer shown h told running halted
-    (subst (λ (ls : List Line). Follows x.start x.values ls new) (append_assoc before (lines.Move shown ∷ []) (lines.Halt (halt_line h) ∷ []))
+    (subst (λ (ls : List Line). Follows x.start x.values ls new) (append_assoc before (lines.Move shown ∷ []) (lines.Halt h ∷ []))
     (halt_follows (before ++ lines.Move shown ∷ []) new x h (is_some old.halted) halted plain knows whole (shows_other before (lines.Move shown) x other unnamed shows) one))
 
 -- the pages are unmapped, whichever are left

@@ -24,7 +24,7 @@ use Rattle.back_jobs.specs.declared.stage.JobStage.TheVariants as job_stage
 use Rattle.back_jobs.specs.Work.{Work, begun, moving, paging, ended, frameless}
 use Rattle.back_jobs.specs.Jobs.{is_done}
 use Rattle.blk_back.specs.declared.told.BackTold.{BackTold}
-use Rattle.blk_back.specs.declared.told.Halt.{Halt}
+use Rattle.blk_base.specs.declared.halt.Halt.{Halt}
 use Rattle.blk_back.specs.declared.stage.BackStage.{BackStage}
 use Rattle.blk_back.specs.View.{View, info_of as back_info}
 use Rattle.blk_back.specs.Ask.{ask_of}

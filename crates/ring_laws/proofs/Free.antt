@@ -19,7 +19,7 @@ use Rattle.report_rules.specs.Overrun.{is_service}
 use Rattle.report_rules.specs.Stretch.{IsStretchAt}
 use Rattle.blk_back.specs.declared.told.BackTold.{BackTold}
 use Rattle.blk_back.specs.declared.told.BackTold.TheVariants as back_told
-use Rattle.blk_back.specs.declared.told.Halt.{Halt}
+use Rattle.blk_base.specs.declared.halt.Halt.{Halt}
 use Rattle.blk_back.specs.View.{View}
 use Rattle.split_model.specs.Shown.{back_lines, effect_line}
 use Rattle.split_model.proofs.Acting.{BackActs, BackFence, BackBind, BackBindRefused, BackSend, BackClose, back_acts}

@@ -5,12 +5,11 @@ use Rattle.schedule_text.specs.declared.line.Line.TheVariants as lines
 use Rattle.back_jobs.specs.Jobs.{first_mapping}
 use Rattle.blk_back.specs.declared.stage.BackStage.{BackStage}
 use Rattle.blk_back.specs.declared.stage.BackStage.TheVariants as stage
-use Rattle.blk_back.specs.declared.told.Halt.{Halt}
-use Rattle.blk_back.specs.declared.told.Halt.TheVariants as halt
+use Rattle.blk_base.specs.declared.halt.Halt.{Halt}
+use Rattle.blk_base.specs.declared.halt.Halt.TheVariants as halt
 use Rattle.blk_back.specs.View.{View}
 use Rattle.blk_back.specs.Step.{unbound, abort, may_halt, halts}
 use Rattle.split_model.specs.Keys.{is_between}
-use Rattle.split_model.specs.Shown.{halt_line}
 use Rattle.split_model.proofs.States.{is_unbound, halts_for_cases}
 use Rattle.ring_laws.proofs.Shows.{Sight}
 use Rattle.ring_laws.proofs.ObeysRing.{IsWhole, is_overrun}
@@ -25,7 +24,7 @@ pub record Stops (x : Sight) (why : Halt) (old new : View) : Type 0 where
   pub running : old.halted ≡ None
   pub halted : new.halted ≡ Some why
   pub over : is_some new.halted ≡ true
-  pub plain : is_overrun (lines.Halt (halt_line why)) ≡ false
+  pub plain : is_overrun (lines.Halt why) ≡ false
   pub between : is_between old.stage ≡ true
   pub still : under_way old.stage ≡ []
   pub ceased : under_way new.stage ≡ []
@@ -37,7 +36,7 @@ pub record Stops (x : Sight) (why : Halt) (old new : View) : Type 0 where
   pub knows : Knows x new
 
 -- the negotiation finds no overrun
-may_plain : (why : Halt) → may_halt why ≡ true → is_overrun (lines.Halt (halt_line why)) ≡ false
+may_plain : (why : Halt) → may_halt why ≡ true → is_overrun (lines.Halt why) ≡ false
 may_plain (halt.Overrun prod rsp_prod) may = absurd (cc)
 may_plain why may = refl
 

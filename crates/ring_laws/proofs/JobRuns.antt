@@ -15,7 +15,7 @@ use Rattle.report_rules.specs.Effect.{AreEffects}
 use Rattle.report_rules.proofs.Obeys.{obeys_none, obeys_more}
 use Rattle.back_jobs.specs.Jobs.{ask_job, place_of, work_of, waits}
 use Rattle.blk_front.specs.Ask as front_ask
-use Rattle.blk_back.specs.declared.told.Halt.{Halt}
+use Rattle.blk_base.specs.declared.halt.Halt.{Halt}
 use Rattle.blk_back.specs.declared.told.BackTold.{BackTold}
 use Rattle.blk_back.specs.Step.{may_attach, attached}
 use Rattle.blk_base.specs.declared.ask.BackAnswer.{BackAnswer}

@@ -13,12 +13,12 @@ use Rattle.schedule_text.specs.declared.line.Line.TheVariants as lines
 use Rattle.report_rules.specs.declared.standing.Standing.{Standing}
 use Rattle.back_jobs.specs.Jobs.{HeldJobs}
 use Rattle.blk_back.specs.declared.told.BackTold.{BackTold}
-use Rattle.blk_back.specs.declared.told.Halt.{Halt}
+use Rattle.blk_base.specs.declared.halt.Halt.{Halt}
 use Rattle.blk_back.specs.declared.stage.BackStage.{BackStage}
 use Rattle.blk_back.specs.declared.stage.BackStage.TheVariants as stage
 use Rattle.blk_back.specs.View.{View}
 use Rattle.split_model.specs.Keys.{is_between}
-use Rattle.split_model.specs.Shown.{back_lines, halt_lines, halt_line}
+use Rattle.split_model.specs.Shown.{back_lines, halt_lines}
 use Rattle.ring_laws.proofs.Shows.{Sight, Shows}
 use Rattle.ring_laws.proofs.ObeysRing.{ObeysRing, IsWhole}
 use Rattle.ring_laws.proofs.Lists.{AreApart}
@@ -155,8 +155,8 @@ quiet start values before old new answer shown told halted follows =
     subst (λ (ls : List Line). Follows start values (before ++ lines.Move shown ∷ ls) new) (sym all) follows
 
 -- the back halts at the move
-pub halting : (start : ℕ) (values : List ℕ) (before : List Line) (old new : View) (answer : BackAnswer) (shown : Move) (h : Halt) → new.told ≡ None → old.halted ≡ None → new.halted ≡ Some h → Follows start values (before ++ lines.Move shown ∷ lines.Halt (halt_line h) ∷ []) new → BackGoes start values before old new answer shown
+pub halting : (start : ℕ) (values : List ℕ) (before : List Line) (old new : View) (answer : BackAnswer) (shown : Move) (h : Halt) → new.told ≡ None → old.halted ≡ None → new.halted ≡ Some h → Follows start values (before ++ lines.Move shown ∷ lines.Halt h ∷ []) new → BackGoes start values before old new answer shown
 halting start values before old new answer shown h told running halted follows =
-    let one : halt_lines old.halted new.halted ≡ lines.Halt (halt_line h) ∷ [] = ap (λ (o : Option Halt). halt_lines o new.halted) running ∙ ap (λ (o : Option Halt). halt_lines None o) halted in
-    let all : back_lines new.told answer ++ halt_lines old.halted new.halted ≡ lines.Halt (halt_line h) ∷ [] = untold new.told answer (halt_lines old.halted new.halted) told ∙ one in
+    let one : halt_lines old.halted new.halted ≡ lines.Halt h ∷ [] = ap (λ (o : Option Halt). halt_lines o new.halted) running ∙ ap (λ (o : Option Halt). halt_lines None o) halted in
+    let all : back_lines new.told answer ++ halt_lines old.halted new.halted ≡ lines.Halt h ∷ [] = untold new.told answer (halt_lines old.halted new.halted) told ∙ one in
     subst (λ (ls : List Line). Follows start values (before ++ lines.Move shown ∷ ls) new) (sym all) follows

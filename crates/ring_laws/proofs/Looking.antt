@@ -10,14 +10,13 @@ use Rattle.blk_base.specs.declared.moves.Move.{Move}
 use Rattle.blk_base.specs.declared.moves.Move.TheVariants as moves
 use Rattle.ring_words.specs.Ring.{overruns}
 use Rattle.ring_words.specs.Shape.{entries_of}
-use Rattle.schedule_text.specs.declared.line.Halt.TheVariants as halts
 use Rattle.schedule_text.specs.declared.line.Line.{Line}
 use Rattle.schedule_text.specs.declared.line.Line.TheVariants as lines
 use Rattle.report_rules.specs.Ring.{produced_shown, ring_order, replied_before}
 use Rattle.report_rules.specs.Overrun.{overrun_of, overrun_by}
 use Rattle.back_jobs.specs.Jobs.{first_mapping}
-use Rattle.blk_back.specs.declared.told.Halt.{Halt}
-use Rattle.blk_back.specs.declared.told.Halt.TheVariants as halt
+use Rattle.blk_base.specs.declared.halt.Halt.{Halt}
+use Rattle.blk_base.specs.declared.halt.Halt.TheVariants as halt
 use Rattle.blk_back.specs.declared.stage.BackStage.TheVariants as stage
 use Rattle.blk_back.specs.View.{View, page_of}
 use Rattle.blk_back.specs.Step.{unmapping_next, overrun, looked}
@@ -66,7 +65,7 @@ looked_over before old answer frame word x s shows stands over told =
     let is : IsPage page.number 0 x = first_is 0 x old s in
     let shown : Move = moves.Read back.Back page.number frame 0 word in
     let line : Line = lines.Move (moves.Read back.Back page.number frame 0 word) in
-    let halt_line : Line = lines.Halt (halts.Overrun word old.ring.indices.prod) in
+    let halt_line : Line = lines.Halt (halt.Overrun word old.ring.indices.prod) in
     let one : Shows (before ++ line ∷ []) (record x { produced = word }) = shows_producer before x page.number frame word is shows in
     let two : Shows ((before ++ line ∷ []) ++ halt_line ∷ []) (record x { produced = word }) = shows_other (before ++ line ∷ []) halt_line (record x { produced = word }) refl refl one in
     let whole : IsWhole x = served_whole x old s in

@@ -23,7 +23,7 @@ use Rattle.blk_back.specs.Step as back_step
 use Rattle.blk_back.specs.declared.stage.Reply.{Reply}
 use Rattle.blk_back.specs.declared.stage.BackStage.TheVariants as stage
 use Rattle.blk_back.specs.declared.stage.BackStage.{BackStage}
-use Rattle.blk_back.specs.declared.told.Halt.{Halt}
+use Rattle.blk_base.specs.declared.halt.Halt.{Halt}
 use Rattle.hypervisor.specs.Hypervisor.{Hypervisor}
 use Rattle.split_model.specs.World.{World, start_of, suspended}
 use Rattle.split_model.specs.Happening.{Happening, FrontMoves, BackMoves, JobMoves, BackAttaches, BackHalts, Suspends, layout_text, layout_read, happens, lines_at, after, back_after, back_shows, job_after, job_shows, front_turn, back_turn, job_turn}

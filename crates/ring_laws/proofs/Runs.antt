@@ -22,7 +22,7 @@ use Rattle.hypervisor.specs.Act.{FrontAct, BackAct, Outcome, Took}
 use Rattle.report_rules.specs.Overrun.{IsOverrunRule}
 use Rattle.report_rules.specs.Stretch.{AreStretches}
 use Rattle.back_jobs.specs.Jobs.{ask_job, complete_job}
-use Rattle.blk_back.specs.declared.told.Halt.{Halt}
+use Rattle.blk_base.specs.declared.halt.Halt.{Halt}
 use Rattle.blk_back.specs.declared.stage.BackStage.{BackStage}
 use Rattle.blk_back.specs.declared.stage.BackStage.TheVariants as stage
 use Rattle.blk_back.specs.Step.{may_attach, attached}
@@ -32,7 +32,7 @@ use Rattle.split_model.specs.World.{World, start_of, suspended}
 use Rattle.split_model.specs.Happening.{Happening, FrontMoves, BackMoves, JobMoves, FrontEnters, BackAttaches, BackHalts, Submits, Suspends, layout_text, layout_read, happens, lines_at, after, lines_of, front_after, front_shows, back_after, back_shows, job_after, job_shows, front_turn, back_turn, job_turn}
 use Rattle.split_model.proofs.SafeAnswers.{jobs_of}
 use Rattle.split_model.specs.Keys.{is_layout, layout_path}
-use Rattle.split_model.specs.Shown.{halt_lines, halt_line}
+use Rattle.split_model.specs.Shown.{halt_lines}
 use Rattle.split_model.specs.Report.{report_of, ended_report_of}
 use Rattle.split_model.specs.Safe.{IsSafe}
 use Rattle.split_model.proofs.Safe.{safe_start, safe_happens}
@@ -101,9 +101,9 @@ halted_follows start w before why f =
   where
     stops : (new : back.View) → Stops f.follows.sight why w.back new → FollowsTo start (before ++ halt_lines w.back.halted new.halted) (record { front = w.front; back = new; under = w.under })
     stops new s =
-        let one : lines.Halt (halt_line why) ∷ [] ≡ halt_lines w.back.halted new.halted = sym (ap (λ (o : Option Halt). halt_lines o new.halted) s.running ∙ ap (λ (o : Option Halt). halt_lines None o) s.halted) in
+        let one : lines.Halt why ∷ [] ≡ halt_lines w.back.halted new.halted = sym (ap (λ (o : Option Halt). halt_lines o new.halted) s.running ∙ ap (λ (o : Option Halt). halt_lines None o) s.halted) in
         let x : Sight = f.follows.sight in
-        let all : Follows x.start x.values (before ++ lines.Halt (halt_line why) ∷ []) new = halt_follows before new f.follows.sight why (is_some w.back.halted) s.halted s.plain s.knows s.whole f.follows.shows f.follows.stands in
+        let all : Follows x.start x.values (before ++ lines.Halt why ∷ []) new = halt_follows before new f.follows.sight why (is_some w.back.halted) s.halted s.plain s.knows s.whole f.follows.shows f.follows.stands in
         record { follows = subst (λ (ls : List Line). Follows start [] (before ++ ls) new) one (whole start x.start x.values f.follows.begun all); told = s.told ∙ f.told; begins = f.begins }
 
     none : FollowsTo start (before ++ halt_lines w.back.halted w.back.halted) (record { front = w.front; back = w.back; under = w.under })

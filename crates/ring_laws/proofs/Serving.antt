@@ -14,7 +14,7 @@ use Rattle.schedule_text.specs.declared.line.Line.{Line}
 use Rattle.schedule_text.specs.declared.line.Line.TheVariants as lines
 use Rattle.report_rules.specs.Overrun.{overrun_by, is_service}
 use Rattle.report_rules.specs.Stretch.{entry_word_read, IsStretchAt}
-use Rattle.blk_back.specs.declared.told.Halt.{Halt}
+use Rattle.blk_base.specs.declared.halt.Halt.{Halt}
 use Rattle.blk_back.specs.View.{View, page_of, slot_page, slot_word}
 use Rattle.blk_back.proofs.Slots.{response_fits}
 use Rattle.ring_laws.specs.Layout.{reads_protocol}

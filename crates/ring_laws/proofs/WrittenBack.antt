@@ -28,12 +28,12 @@ use Rattle.back_jobs.specs.Jobs.{first_mapping}
 use Rattle.blk_back.specs.declared.stage.Reply.{Reply}
 use Rattle.blk_back.specs.declared.stage.BackStage.{BackStage}
 use Rattle.blk_back.specs.declared.stage.BackStage.TheVariants as stage
-use Rattle.blk_back.specs.declared.told.Halt.{Halt}
+use Rattle.blk_base.specs.declared.halt.Halt.{Halt}
 use Rattle.blk_back.specs.View.{View, page_of, slot_page, slot_word}
 use Rattle.blk_back.proofs.Slots.{response_fits}
 use Rattle.blk_back.specs.Ask.{ask_at, ask_of, loop_ask, index_ask, entry_ask, unmap_ask, next_gref, next_reply, response_word}
 use Rattle.blk_back.specs.Step.{at, unbound, bound, other_pages, mapped, unmapped_bound, unmapped_unbound, unmapping_next, abort, overrun, looked, loop_word, loop_step, fetched, fetch_step, replied, step_at, step_of}
-use Rattle.split_model.specs.Shown.{back_lines, halt_lines, halt_line}
+use Rattle.split_model.specs.Shown.{back_lines, halt_lines}
 use Rattle.split_model.proofs.SafeActs.{of_back, back_wait}
 use Rattle.ring_laws.proofs.Shows.{Sight, Shows, IsOnPages}
 use Rattle.ring_laws.proofs.Touches.{read_on, write_on}
@@ -68,7 +68,7 @@ read_passes number frame word value = record { on = read_on number frame word va
 
 pub halt_passes : (old new : Option Halt) → AllPass (halt_lines old new)
 halt_passes None None = tt
-halt_passes None (Some h) = (passes_other (lines.Halt (halt_line h)) refl refl, tt)
+halt_passes None (Some h) = (passes_other (lines.Halt h) refl refl, tt)
 halt_passes (Some g) new = tt
 
 -- a move between two replies that writes no word of one; the back may halt

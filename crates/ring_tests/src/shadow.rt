@@ -35,11 +35,11 @@ fn finds_by_id_what_was_issued(rt: HostRuntime) -> Result<(), Fail> {
     shadow.add(request(9, 24));
     same(&rt, shadow.len(), 3);
 
-    same(&rt, shadow.place_among(2, 7), Some(1));
-    assert_eq!(rt; shadow.place_among(2, 9), None, "not among the first two");
-    assert_eq!(rt; shadow.place_among(3, 5), None, "never issued");
+    same(&rt, shadow.find(2, 7), Some(1));
+    assert_eq!(rt; shadow.find(2, 9), None, "not among the first two");
+    assert_eq!(rt; shadow.find(3, 5), None, "never issued");
     assert_eq!(rt;
-        shadow.place_among(3, 4294967303),
+        shadow.find(3, 4294967303),
         None,
         "an id above 32 bits, of which the low word is 7"
     );
@@ -55,13 +55,13 @@ fn issues_again_in_order_what_was_not_answered(rt: HostRuntime) -> Result<(), Fa
     shadow.add(request(7, 16));
     shadow.add(request(4294967295, 40));
 
-    let taken = shadow.remove(1);
+    let taken = shadow.finish(1);
     same(&rt, &taken, &request(7, 16));
-    assert_eq!(rt; shadow.place_among(2, 7), None, "handed out");
-    same(&rt, shadow.place_among(2, 4294967295), Some(1));
+    assert_eq!(rt; shadow.find(2, 7), None, "handed out");
+    same(&rt, shadow.find(2, 4294967295), Some(1));
 
     shadow.put_back(taken);
-    let mut again = shadow.as_slice().iter();
+    let mut again = shadow.in_order().iter();
     for number in [4, 7, 4294967295] {
         assert!(rt;
             again.next().is_some_and(|r| r.number == number),

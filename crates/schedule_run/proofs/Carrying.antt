@@ -319,10 +319,10 @@ halts_in piece i s t why new lt carried h =
     subst (λ (p : List ℕ). Halts p s why new) whole (halts_more (take i piece ++ get_or piece i 0 ∷ []) (drop (i + 1) piece) s why new so_far)
 
 -- what is attached stays, and so do the front's sectors
-pub leads_attached : (kind : List Happening → Type 0) (a b : Moment) → Leads kind a b → attached_of a.disk ≡ Some a.world.rings.front.sectors → attached_of b.disk ≡ Some b.world.rings.front.sectors
+pub leads_attached : (kind : List Happening → Type 0) (a b : Moment) → Leads kind a b → attached_of a.disk ≡ Some a.world.rings.back.jobs.info.sectors → attached_of b.disk ≡ Some b.world.rings.back.jobs.info.sectors
 leads_attached kind a b p attached =
     ap sectors_of (runs_attachment p.history a.world a.disk b.disk p.disk)
-    ∙ (attached ∙ ap Some (sym (ap (λ (w : World). w.rings.front.sectors) p.world ∙ sectors_after p.history a.world)))
+    ∙ (attached ∙ ap Some (sym (ap (λ (w : World). w.rings.back.jobs.info.sectors) p.world ∙ sectors_after p.history a.world)))
 
 -- the reader is ready for more bytes where it was ready for all
 pub ready_after : (p : List ℕ) (n m : ℕ) (s t : ReadSoFar) → length p + n ≤ m → IsReadyToTake m s → Carries p s t → IsReadyToTake n t

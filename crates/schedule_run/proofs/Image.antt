@@ -4,14 +4,14 @@ use Rattle.std.specs.Prelude.{◌⊎◌, ◌&&◌, filter, map, if◌then◌else
 use Rattle.std.specs.List.{AllByRecursion, list_all}
 use Rattle.std.proofs.lemmas.List.Elements.{filter-append}
 use Rattle.blk_base.specs.Options.{Options}
-use Rattle.blk_base.specs.declared.config.Job.{Job}
+use Rattle.blk_base.specs.declared.config.Submission.{Submission}
 use Rattle.blk_base.specs.declared.parts.End.TheVariants as end
 use Rattle.blk_base.specs.declared.ask.BackAnswer.{BackAnswer}
 use Rattle.blk_base.specs.declared.ask.BackAnswer.TheVariants as answers
 use Rattle.blk_front.specs.declared.state.FrontState.{FrontState}
 use Rattle.blk_back.specs.declared.told.BackTold.{BackTold}
 use Rattle.blk_back.specs.declared.told.BackTold.TheVariants as told
-use Rattle.blk_back.specs.declared.told.Halt.{Halt}
+use Rattle.blk_base.specs.declared.halt.Halt.{Halt}
 use Rattle.blk_back.specs.View as back_view
 use Rattle.blk_back.specs.Step as back_step
 use Rattle.hypervisor.specs.Act.{BackAct, Took}
@@ -266,7 +266,7 @@ happening_few w h honest = plain_few _ (aside_plain (does w h) w.rings (tt, tt))
 -- ---- the image
 
 -- of a whole report
-pub whole_image : (config : Options) (detail : Detail) (jobs : List Job) (before now : Option (List (List ℕ))) (report : List Line) → IsLawful config detail jobs before now report → IsHonest report → IsOneCallPast config.sectors before now report
+pub whole_image : (config : Options) (detail : Detail) (jobs : List Submission) (before now : Option (List (List ℕ))) (report : List Line) → IsLawful config detail jobs before now report → IsHonest report → IsOneCallPast config.sectors before now report
 whole_image config detail jobs before now report lawful honest = record {
   more = [];
   few = omega arith;
@@ -286,7 +286,7 @@ nothing_image config before now long same = record {
     at (Some content) sized = record { first = content; begins = refl; disk = disk_of content; run = refl; kept = record { sized = sized; known = λ i words is. is } }
 
 -- of a report with some lines more, of which one tells of a call at most
-more_image : (config : Options) (detail : Detail) (jobs : List Job) (before now : Option (List (List ℕ))) (report more all : List Line) → report ++ more ≡ all → AreFew more → IsLawful config detail jobs before now all → IsHonest report → IsOneCallPast config.sectors before now report
+more_image : (config : Options) (detail : Detail) (jobs : List Submission) (before now : Option (List (List ℕ))) (report more all : List Line) → report ++ more ≡ all → AreFew more → IsLawful config detail jobs before now all → IsHonest report → IsOneCallPast config.sectors before now report
 more_image config detail jobs before now report more all same few lawful honest = record {
   more = more;
   few = few.few;

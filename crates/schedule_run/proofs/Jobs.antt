@@ -14,7 +14,7 @@ use Rattle.vbd_model.proofs.Joining.{each_more}
 pub record HasMovedJobs (last : ℕ) (a b : Moment) : Type 0 where
   pub leads : Leads (AreEachJobs 0 last a.world) a b
   pub made : mappings_of b.world ≤ mappings_of a.world
-  pub sectors : b.world.rings.front.sectors ≡ a.world.rings.front.sectors
+  pub sectors : b.world.rings.back.jobs.info.sectors ≡ a.world.rings.back.jobs.info.sectors
   pub attachment : b.disk.attachment ≡ a.disk.attachment
 
 pub jobs_none : (a : Moment) → HasMovedJobs 0 a a

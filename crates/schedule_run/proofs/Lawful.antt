@@ -45,7 +45,7 @@ use Rattle.disk_laws.proofs.Reports.{reports_answered, ended_answered, reports_u
 use Rattle.schedule_text.specs.Range.{AreOptions, IsInRange}
 use Rattle.schedule_text.specs.Line.{text_of}
 use Rattle.plain_disk.specs.Disk.{disk_of}
-use Rattle.blk_base.specs.declared.config.Job.{Job}
+use Rattle.blk_base.specs.declared.config.Submission.{Submission}
 use Rattle.report_laws.specs.Begun.{IsBegun}
 use Rattle.report_laws.specs.Grammar.{IsInGrammar}
 use Rattle.report_laws.specs.Ready.{IsReadyAt, IsReadyFirst}
@@ -206,7 +206,7 @@ serving_before config [] rest all = tt
 serving_before config (h ∷ first) rest all = (all.0, serving_before config first rest all.1)
 
 -- what the beginning of a report tells of its requests, where a run has that report
-so_far_served : (jobs : List Job) (before : Option (List (List ℕ))) (report : List Line) → HasRunSoFar jobs before report → ServesRequestsSoFar jobs before report
+so_far_served : (jobs : List Submission) (before : Option (List (List ℕ))) (report : List Line) → HasRunSoFar jobs before report → ServesRequestsSoFar jobs before report
 so_far_served jobs before report h = record {
   disk = begun_run jobs before report h;
   submissions = begun_answered jobs before report h;
@@ -217,12 +217,12 @@ so_far_served jobs before report h = record {
 }
 
 -- more may be submitted later
-pub later_run : (jobs more all : List Job) (before : Option (List (List ℕ))) (report : List Line) → jobs ++ more ≡ all → HasRunSoFar jobs before report → HasRunSoFar all before report
+pub later_run : (jobs more all : List Submission) (before : Option (List (List ℕ))) (report : List Line) → jobs ++ more ≡ all → HasRunSoFar jobs before report → HasRunSoFar all before report
 later_run jobs more all before report e h = record {
   run = h.run;
   report_same = h.report_same;
   more = h.more ++ more;
-  submits = sym (append_assoc (let r = h.run in steps_submit r.steps) h.more more) ∙ (ap (λ (js : List Job). js ++ more) h.submits ∙ e);
+  submits = sym (append_assoc (let r = h.run in steps_submit r.steps) h.more more) ∙ (ap (λ (js : List Submission). js ++ more) h.submits ∙ e);
   from = h.from;
 }
 
@@ -385,7 +385,7 @@ begun_honest config detail history last part rest before now h long runs all of 
         let both : submitted_of (history ++ last ∷ []) ≡ submitted_of history ++ submitted_of (last ∷ []) = filter_map-append submitted_at history (last ∷ []) in
         subst (HasRunSoFar (submitted_of (history ++ last ∷ [])) before.content) (sym same)
         (later_run (submitted_of (honest_history history)) (submitted.0 ++ submitted_of (last ∷ [])) (submitted_of (history ++ last ∷ [])) before.content _
-        (sym (append_assoc (submitted_of (honest_history history)) submitted.0 (submitted_of (last ∷ []))) ∙ (ap (λ (js : List Job). js ++ submitted_of (last ∷ [])) submitted.1 ∙ sym both))
+        (sym (append_assoc (submitted_of (honest_history history)) submitted.0 (submitted_of (last ∷ []))) ∙ (ap (λ (js : List Submission). js ++ submitted_of (last ∷ [])) submitted.1 ∙ sym both))
         (whole_report config detail (honest_history history) before part_disk.0 h.plain (served_before history (last ∷ []) (start_of config) h.served) long part_disk.1
         (subst (IsOfADisk config.sectors before.content) same of)))
 
@@ -471,7 +471,7 @@ none_read_otherwise (line ∷ other) e =
     let feed = length-append (text_of line) (10 ∷ []) in
     absurd (omega arith)
 
-pub nothing_lawful : (config : Options) (detail : Detail) (jobs : List Job) (before : Option (List (List ℕ))) → IsLawfulSoFar config detail jobs before []
+pub nothing_lawful : (config : Options) (detail : Detail) (jobs : List Submission) (before : Option (List (List ℕ))) → IsLawfulSoFar config detail jobs before []
 nothing_lawful config detail jobs before =
     let run = nothing_run before in
     record {

@@ -1,7 +1,7 @@
 -- However a run ends, what was told of it is lawful.
 use Rattle.std.proofs.Common.{◌≡◌, ℕ, List, [], ◌∷◌, ◌++◌, Option, Some, None, Result, Ok, Err, inl, inr, ◌⊎◌, refl, ap, sym, ◌∙◌, subst, append-nil, arith}
 use Rattle.blk_base.specs.Options.{Options}
-use Rattle.blk_base.specs.declared.config.Job.{Job}
+use Rattle.blk_base.specs.declared.config.Submission.{Submission}
 use Rattle.blk_io.specs.Outside.{SourceSeen}
 use Rattle.blk_io.specs.Disk.{HasLength}
 use Rattle.schedule_text.specs.declared.event.Event.{Event}
@@ -106,7 +106,7 @@ done_lawful config limit a b old new long done =
       parts = ended_by_events config detail done.events leads.history (are_made config done.events old (moment (let h = done.carried in h.0) new.disk done.before) carried);
       faults = ended_raised config detail leads.history old.disk new.disk leads.disk;
       widths = have_widths config done.events old (moment (let h = done.carried in h.0) new.disk done.before) carried;
-      lawful = subst (λ (jobs : List Job). IsLawful config detail jobs old.disk.content new.disk.content (kept_of detail (ended_report_of config detail leads.history))) (events_submit done.events (start_of config) leads.history leads.is_kind)
+      lawful = subst (λ (jobs : List Submission). IsLawful config detail jobs old.disk.content new.disk.content (kept_of detail (ended_report_of config detail leads.history))) (events_submit done.events (start_of config) leads.history leads.is_kind)
           (ended_lawful config detail leads.history old.disk new.disk (is_told config done.events old (moment (let h = done.carried in h.0) new.disk done.before) carried) long leads.disk);
     }
 
@@ -125,7 +125,7 @@ unsent_lawful config limit a b old new long h =
       record {
         report = kept_of detail report;
         told = inl (h.told ∙ done_told config done.events old (outside new.disk h.before) done.before done.carried ended.told);
-        lawful = subst (λ (jobs : List Job). IsLawfulSoFar config detail jobs old.disk.content (kept_of detail report)) (events_submit done.events (start_of config) leads.history leads.is_kind)
+        lawful = subst (λ (jobs : List Submission). IsLawfulSoFar config detail jobs old.disk.content (kept_of detail report)) (events_submit done.events (start_of config) leads.history leads.is_kind)
             (begun_lawful config detail leads.history old.disk.content report [] told (append-nil report)
             (ended_honest_run config detail leads.history old.disk new.disk told long leads.disk));
         image = λ honest.

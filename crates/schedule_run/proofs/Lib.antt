@@ -19,3 +19,4 @@ pub mod Told
 pub mod LawfulEnds
 pub mod Headline
 pub mod Suspended
+pub mod Waiting

@@ -11,12 +11,12 @@ use Rattle.std.proofs.lemmas.List.Concat.{flat_map-append}
 use Rattle.std.proofs.lemmas.Fmt.{length-decimal-le}
 use Rattle.line_text.specs.Words.{joined, spaced}
 use Rattle.line_text.specs.Numbers.{hex8}
-use Rattle.blk_base.specs.declared.config.Job.TheVariants as jobs
+use Rattle.blk_base.specs.declared.config.Submission.TheVariants as submissions
 use Rattle.blk_base.specs.declared.parts.End.{End}
 use Rattle.blk_base.specs.declared.parts.End.TheVariants as ends
 use Rattle.schedule_text.specs.declared.event.Event.{Event}
 use Rattle.schedule_text.specs.declared.event.Event.TheVariants as events
-use Rattle.schedule_text.specs.Line.{job_words}
+use Rattle.schedule_text.specs.Line.{submission_words}
 use Rattle.schedule_text.specs.Event.{event_text, end_word, EventHasWidths}
 use Rattle.vbd_model.specs.Kind.{is_carried}
 use Rattle.schedule_run.specs.Reading.{text_of, HasNoLineFeed, first_line, IsLineOf, IsBadLine, AreLinesOf}
@@ -86,14 +86,14 @@ text_short text e = let sized = both_true (nat_lt 0 (length text) && nat_le (len
 
 -- the text of an event that is carried out is short
 carried_short : (event : Event) → EventHasWidths event → is_carried event ≡ true → length (event_text event) ≤ 128
-carried_short (events.Submit (jobs.Read s c)) h e =
+carried_short (events.Submit (submissions.Read s c)) h e =
     omega (arith, four_words (codes "submit") (codes "read") (decimal s) (decimal c), long_short s h.0, word_short c h.1.1)
-carried_short (events.Submit (jobs.Write s c t)) h e =
+carried_short (events.Submit (submissions.Write s c t)) h e =
     omega (arith, five_words (codes "submit") (codes "write") (decimal s) (decimal c) (hex8 t), long_short s h.0, word_short c h.1.1, hex_short t)
-carried_short (events.Submit (jobs.Barrier s c t)) h e =
+carried_short (events.Submit (submissions.Barrier s c t)) h e =
     omega (arith, five_words (codes "submit") (codes "barrier") (decimal s) (decimal c) (hex8 t), long_short s h.0, word_short c h.1.1, hex_short t)
-carried_short (events.Submit jobs.Flush) h e = omega arith
-carried_short (events.Submit (jobs.Discard s c)) h e =
+carried_short (events.Submit submissions.Flush) h e = omega arith
+carried_short (events.Submit (submissions.Discard s c)) h e =
     omega (arith, four_words (codes "submit") (codes "discard") (decimal s) (decimal c), long_short s h.0, word_short c h.1.1)
 carried_short (events.Front n) h e = omega (arith, two_words (codes "front") (decimal n), word_short n h)
 carried_short (events.Back n) h e = omega (arith, two_words (codes "back") (decimal n), word_short n h)
@@ -121,7 +121,7 @@ long_is_bad line h (Some event) is =
 
 -- the text of any event has four bytes or more
 pub event_long : (event : Event) → 4 ≤ length (event_text event)
-event_long (events.Submit job) = omega (arith, length-append (codes "submit") (spaced (job_words job)))
+event_long (events.Submit job) = omega (arith, length-append (codes "submit") (spaced (submission_words job)))
 event_long (events.Front n) = omega (arith, two_words (codes "front") (decimal n))
 event_long (events.Back n) = omega (arith, two_words (codes "back") (decimal n))
 event_long (events.Job k n) = omega (arith, three_words (codes "job") (decimal k) (decimal n))

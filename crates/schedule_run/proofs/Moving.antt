@@ -32,7 +32,7 @@ use Rattle.blk_back.specs.declared.told.BackTold.{BackTold}
 use Rattle.xenbus_state.specs.FrontView.{FrontView}
 use Rattle.xenbus_state.specs.declared.front.FrontNews.{FrontNews}
 use Rattle.schedule_text.specs.declared.recorder.RecordStop.TheVariants.{OutOfMemory}
-use Rattle.blk_back.specs.declared.told.Halt.{Halt}
+use Rattle.blk_base.specs.declared.halt.Halt.{Halt}
 use Rattle.xenbus_state.specs.BackView.{BackView}
 use Rattle.xenbus_state.specs.declared.back.BackBusAsk.{BackBusAsk}
 use Rattle.xenbus_state.specs.declared.back.BackBusAsk.TheVariants as back_ask
@@ -73,7 +73,7 @@ use Rattle.vbd_model.specs.News.{news_lines}
 use Rattle.vbd_model.proofs.Keeping.{sectors_kept}
 
 -- one thing happened to the machine, and its lines were given to the recorder
-pub goes_here : (kind so_far : List Happening → Type 0) (n : ℕ) (h : Happening) (w v : World) (a b : DiskSeen) (r s : RecorderSeen) (result : Result (Unit {0}) RecordStop) → kind (h ∷ []) → so_far (h ∷ []) → v ≡ happens w h → mappings_of v ≤ mappings_of w + n → v.rings.front.sectors ≡ w.rings.front.sectors → DiskGoes w h a b → Adds (lines_at w h) result r s → Goes kind so_far n result (moment w a r) (moment v b s)
+pub goes_here : (kind so_far : List Happening → Type 0) (n : ℕ) (h : Happening) (w v : World) (a b : DiskSeen) (r s : RecorderSeen) (result : Result (Unit {0}) RecordStop) → kind (h ∷ []) → so_far (h ∷ []) → v ≡ happens w h → mappings_of v ≤ mappings_of w + n → v.rings.back.jobs.info.sectors ≡ w.rings.back.jobs.info.sectors → DiskGoes w h a b → Adds (lines_at w h) result r s → Goes kind so_far n result (moment w a r) (moment v b s)
 goes_here kind so_far n h w v a b r s result is far world made sectors disk told =
     goes_one kind so_far n h result (moment w a r) (moment v b s) is far world made sectors disk told
 
@@ -206,7 +206,7 @@ front_goes_as w ask seen x f u c r s result fit asked e under stepped taken show
     let happened = front_happened w ask seen x f u fit asked e under stepped taken in
     let made = happened.2 in
     goes_here (Is (FrontMoves ∷ [])) (Is (FrontMoves ∷ [])) 0 FrontMoves w (front_moved w f u) c c r s result refl refl
-    happened.0 (omega arith) (ap (λ (v : World). v.rings.front.sectors) happened.0 ∙ sectors_kept w FrontMoves) (happened.3 c)
+    happened.0 (omega arith) (ap (λ (v : World). v.rings.back.jobs.info.sectors) happened.0 ∙ sectors_kept w FrontMoves) (happened.3 c)
     (subst (λ (l : List Line). Adds l result r s) (sym happened.1) shown)
 
 -- it has no move: nothing happened, and nothing is shown
@@ -290,7 +290,7 @@ back_goes_as w ask seen x b u c d lines r s result fit said same shown =
     let happened = back_happened w ask seen x b u c d fit said in
     let took = asks_no_disk (backend_of w) ask (outcome_told seen.0) c d said.asked said.disk in
     goes_here (Is (BackMoves ∷ [])) (Is (BackMoves ∷ [])) 41 BackMoves w (back_moved w b u) c d r s result refl refl
-    happened.0 (subst (λ (v : World). mappings_of v ≤ mappings_of w + 41) (sym happened.0) (back_comes w)) (ap (λ (v : World). v.rings.front.sectors) happened.0 ∙ sectors_kept w BackMoves) (subst (λ (e : DiskSeen). DiskGoes w BackMoves c e) (sym took.1) (happened.2 c))
+    happened.0 (subst (λ (v : World). mappings_of v ≤ mappings_of w + 41) (sym happened.0) (back_comes w)) (ap (λ (v : World). v.rings.back.jobs.info.sectors) happened.0 ∙ sectors_kept w BackMoves) (subst (λ (e : DiskSeen). DiskGoes w BackMoves c e) (sym took.1) (happened.2 c))
     (subst (λ (l : List Line). Adds l result r s) (sym (happened.1 ∙ ap (λ (l : List Line). Move seen.1 ∷ l) (sym same))) shown)
 
 -- it waits, and neither an event nor a watch is pending
@@ -345,11 +345,11 @@ front_lacks w ask u c r asked takes same = rw same (goes_lacking (Is (FrontMoves
 pub back_lacks : (w : World) (ask : BackAsk) (u : Hypervisor) (c d : DiskSeen) (r : RecorderSeen) → ask ≡ back.ask_of (backend_of w) → BackTakesMemory ask → u ≡ w.rings.under → d ≡ c → Goes (Is (BackMoves ∷ [])) (Is (BackMoves ∷ [])) 41 (Err OutOfMemory) (moment w c r) (moment (record { rings = record { front = w.rings.front; back = w.rings.back; under = u }; front = w.front; back = w.back }) d r)
 back_lacks w ask u c d r asked takes same untouched = rw (same, untouched) (goes_lacking (Is (BackMoves ∷ [])) (Is (BackMoves ∷ [])) 41 BackMoves (moment w c r) (moment w c r) refl (subst BackTakesMemory asked takes) refl refl refl)
 
-pub back_asked_may : (w v : World) (ask : BackAsk) (attached : Option ℕ) → w ≡ v → IsFit w → ask ≡ back.ask_of (backend_of w) → Names (hands_of w.rings.back) ask → length (hands_of w.rings.back) ≤ 529 → attached ≡ Some v.rings.front.sectors → mappings_of v + 41 < 2 ^ 64 → BackMay w.rings.under attached ask
+pub back_asked_may : (w v : World) (ask : BackAsk) (attached : Option ℕ) → w ≡ v → IsFit w → ask ≡ back.ask_of (backend_of w) → Names (hands_of w.rings.back) ask → length (hands_of w.rings.back) ≤ 529 → attached ≡ Some v.rings.back.jobs.info.sectors → mappings_of v + 41 < 2 ^ 64 → BackMay w.rings.under attached ask
 back_asked_may w v ask attached is fit asked names few disk left =
-    let known : attached ≡ Some w.rings.front.sectors = disk ∙ sym (ap (λ (x : World). Some x.rings.front.sectors) is) in
+    let known : attached ≡ Some w.rings.back.jobs.info.sectors = disk ∙ sym (ap (λ (x : World). Some x.rings.back.jobs.info.sectors) is) in
     subst (λ (a : Option ℕ). BackMay w.rings.under a ask) (sym known)
-    (subst (BackMay w.rings.under (Some w.rings.front.sectors)) (sym asked)
+    (subst (BackMay w.rings.under (Some w.rings.back.jobs.info.sectors)) (sym asked)
     (back_asks_may w fit (subst (Names (hands_of w.rings.back)) asked names) (subst (λ (x : World). x.rings.under.grants.made + 1 < 2 ^ 64) (sym is) (omega arith)) few))
 
 asleep_at : (h : Hypervisor) (pending : Bool) (watches : List (List ℕ)) → (pending || not (is_empty_list watches)) ≡ false → (if pending then Some (back_event h) else back_watched h (first_of watches)) ≡ None
@@ -427,7 +427,7 @@ front_close_goes w x f c r s result fit asked taken shown =
     let closed = front_closed w x f fit asked taken in
     let is = close_is w end.Front fit in
     goes_here (Is (Closes end.Front ∷ [])) (Is (Closes end.Front ∷ [])) 0 (Closes end.Front) w (front_moved w f w.rings.under) c c r s result refl refl
-    closed.0 (omega arith) (ap (λ (v : World). v.rings.front.sectors) closed.0 ∙ sectors_kept w (Closes end.Front)) (is.disk c)
+    closed.0 (omega arith) (ap (λ (v : World). v.rings.back.jobs.info.sectors) closed.0 ∙ sectors_kept w (Closes end.Front)) (is.disk c)
     (subst (λ (l : List Line). Adds l result r s) (sym closed.1) (shown [] r (gained_none r)))
 
 pub back_close_fit : (w : World) (b : back_view.View) → IsFit w → b ≡ back_step.closes (backend_of w) → IsFit (back_moved w b w.rings.under)

@@ -13,7 +13,6 @@ use Rattle.blk_front.specs.Suspend as front_ring
 use Rattle.xenbus_state.specs.FrontView as bus
 use Rattle.split_model.specs.World.{may_suspend, state_after}
 use Rattle.split_model.specs.Happening as ring
-use Rattle.split_model.proofs.Suspending.{front_kept}
 use Rattle.vbd_front.specs.View as front_view
 use Rattle.vbd_front.specs.Step as front_step
 use Rattle.vbd_back.specs.View as back_view
@@ -24,6 +23,7 @@ use Rattle.vbd_model.specs.Kind.{IsSuspend, IsSuspendSoFar}
 use Rattle.vbd_model.specs.Leads.{moment, Goes}
 use Rattle.vbd_model.specs.Mappings.{mappings_of}
 use Rattle.vbd_model.proofs.Mappings.{ring_left}
+use Rattle.vbd_model.proofs.Keeping.{sectors_kept}
 use Rattle.vbd_model.proofs.Running.{goes_lacking}
 use Rattle.vbd_laws.proofs.Fit.{fit_happens}
 use Rattle.schedule_run.specs.Inside.{world_of, HasHeard}
@@ -56,12 +56,9 @@ pub suspended_goes : (w v : World) (c : DiskSeen) (r s : RecorderSeen) (result :
 suspended_goes w v c r s result may same told =
     goes_here (IsSuspend w) (IsSuspendSoFar w) 0 Suspends w v c c r s result (refl, may) (inl (refl, may)) same
     (subst (λ (x : World). mappings_of x ≤ mappings_of w + 0) (sym same) (ring_left w.rings ring.Suspends))
-    (ap (λ (x : World). x.rings.front.sectors) same ∙ sectors_stay)
+    (ap (λ (x : World). x.rings.back.jobs.info.sectors) same ∙ sectors_kept w Suspends)
     (c, refl, refl)
     (rw may told)
-  where
-    sectors_stay : (let x : World = happens w Suspends in x.rings.front.sectors) ≡ w.rings.front.sectors
-    sectors_stay = rw may (front_kept w.rings.front).sectors
 
 -- nothing happened, for want of memory or of a port number
 pub suspend_lacks : (w v : World) (c : DiskSeen) (r : RecorderSeen) → v ≡ w → Goes (IsSuspend w) (IsSuspendSoFar w) 0 (Err OutOfMemory) (moment w c r) (moment v c r)

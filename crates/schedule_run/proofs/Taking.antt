@@ -357,7 +357,7 @@ at_end now limit room n buffer s t u a b (Err why) first zero some room_left unf
     read_stopped_last a.left now limit room n buffer s t a b why u.at refl first zero some room_left last.0 unfailed read h last.1
 
 -- the reader is ready for what is left of the limit
-pub ready_taken : (left now : Option (List ℕ)) (limit room n : ℕ) (s t : ReadSoFar) → IsFirst limit s → n ≤ room → attached_of s.at.disk ≡ Some s.at.world.rings.front.sectors → HasTaken left now limit room s t → IsReadyToTake n t
+pub ready_taken : (left now : Option (List ℕ)) (limit room n : ℕ) (s t : ReadSoFar) → IsFirst limit s → n ≤ room → attached_of s.at.disk ≡ Some s.at.world.rings.back.jobs.info.sectors → HasTaken left now limit room s t → IsReadyToTake n t
 ready_taken left now limit room n s t first le attached h =
     let size = h.size in
     let small = first.small in

@@ -1,12 +1,12 @@
 -- What was told of events that were carried out is lawful; so is what was told until the recorder stopped.
 use Rattle.std.proofs.Common.{◌≡◌, ℕ, ◌^◌, ◌<◌, ◌≤◌, ◌⊎◌, List, [], ◌∷◌, ◌++◌, length, Result, Ok, Err, inl, inr, refl, ap, sym, ◌∙◌, subst, append_assoc, append-nil, length-append, arith}
 use Rattle.blk_base.specs.Options.{Options}
-use Rattle.blk_base.specs.declared.config.Job.{Job}
+use Rattle.blk_base.specs.declared.config.Submission.{Submission}
 use Rattle.blk_io.specs.Disk.{DiskSeen, HasLength}
 use Rattle.std.specs.Prelude.{All}
 use Rattle.std.specs.List.{AllByRecursion}
 use Rattle.std.proofs.lemmas.List.Elements.{All-from_recursion}
-use Rattle.schedule_text.specs.Range.{JobHasWidths}
+use Rattle.schedule_text.specs.Range.{SubmissionHasWidths}
 use Rattle.schedule_text.specs.declared.event.Event.{Event}
 use Rattle.schedule_text.specs.declared.event.Event.TheVariants as events
 use Rattle.schedule_text.specs.declared.line.Detail.{Detail}
@@ -77,13 +77,13 @@ is_told config events old now h =
     }
 
 -- each request that is submitted has numbers of the grammar
-jobs_fit : (es : List Event) (w : World) (hs : List Happening) → AreOfAll es w hs → AllByRecursion JobHasWidths (jobs_of es)
+jobs_fit : (es : List Event) (w : World) (hs : List Happening) → AreOfAll es w hs → AllByRecursion SubmissionHasWidths (jobs_of es)
 jobs_fit [] w hs are = tt
 jobs_fit (events.Submit job ∷ es) w hs are = (are.3.1.1, jobs_fit es (after are.0 w) are.1 are.4)
 jobs_fit (e ∷ es) w hs are = jobs_fit es (after are.0 w) are.1 are.4
 
-pub have_widths : (config : Options) (events : List Event) (old : Outside) (now : Moment) → HasCarried config events old now → All JobHasWidths (jobs_of events)
-have_widths config events old now h = let leads = h.leads in All-from_recursion JobHasWidths (jobs_of events) (jobs_fit events (start_of config) leads.history leads.is_kind)
+pub have_widths : (config : Options) (events : List Event) (old : Outside) (now : Moment) → HasCarried config events old now → All SubmissionHasWidths (jobs_of events)
+have_widths config events old now h = let leads = h.leads in All-from_recursion SubmissionHasWidths (jobs_of events) (jobs_fit events (start_of config) leads.history leads.is_kind)
 
 -- these events made what happened
 pub are_made : (config : Options) (events : List Event) (old : Outside) (now : Moment) (h : HasCarried config events old now) → (let leads = h.leads in AreMade config events leads.history)
@@ -107,7 +107,7 @@ carried_lawful config events old now long h =
       parts = report_by_events config detail events leads.history (are_made config events old now h);
       faults = report_raised config detail leads.history old.disk now.disk leads.disk;
       widths = have_widths config events old now h;
-      lawful = subst (λ (jobs : List Job). IsLawful config detail jobs old.disk.content now.disk.content (kept_of detail report)) (events_submit events (start_of config) leads.history leads.is_kind)
+      lawful = subst (λ (jobs : List Submission). IsLawful config detail jobs old.disk.content now.disk.content (kept_of detail report)) (events_submit events (start_of config) leads.history leads.is_kind)
           (report_lawful config detail leads.history old.disk now.disk (is_told config events old now h) long leads.disk);
     }
 
@@ -130,7 +130,7 @@ carried_so_far config why events old now long h =
     record {
       report = kept_of detail report;
       told = told_whole why detail (kept_of detail report) old.recorder.told now.recorder.told told.told;
-      lawful = subst (λ (jobs : List Job). IsLawfulSoFar config detail jobs old.disk.content (kept_of detail report)) (events_submit events (start_of config) leads.history leads.is_kind)
+      lawful = subst (λ (jobs : List Submission). IsLawfulSoFar config detail jobs old.disk.content (kept_of detail report)) (events_submit events (start_of config) leads.history leads.is_kind)
           (begun_lawful config detail leads.history old.disk.content report (End ∷ []) (is_told config events old now h) refl
           (report_honest_run config detail leads.history old.disk now.disk (is_told config events old now h) long leads.disk));
       image = carried_image config events old now long h;
@@ -197,7 +197,7 @@ stopped_showing config events event why old began new history last long first bo
     record {
       report = kept_of detail said;
       told = told_at why detail (kept_of detail said) told.cut old.recorder.told new.recorder.told told.stops;
-      lawful = subst (λ (js : List Job). IsLawfulSoFar config detail js old.disk.content (kept_of detail said)) jobs
+      lawful = subst (λ (js : List Submission). IsLawfulSoFar config detail js old.disk.content (kept_of detail said)) jobs
           (begun_lawful config detail all old.disk.content said ((told.cut ∷ told.rest) ++ End ∷ []) both
           (cut_report config detail history last told.said told.rest told.cut told.all)
           (begun_honest config detail history last told.said told.cut told.rest old.disk new.disk both long s.disk (sym told.all)));
@@ -228,7 +228,7 @@ lacked_memory config events event why old began new history last long first both
           whole_image config detail (submitted config history) old.disk.content new.disk.content (kept_of detail said)
           (report_lawful config detail history old.disk new.disk (history_first config detail history last both) long s.disk) honest;
       faults = inl (report_raised config detail history old.disk new.disk s.disk);
-      lawful = subst (λ (js : List Job). IsLawfulSoFar config detail js old.disk.content (kept_of detail said)) jobs
+      lawful = subst (λ (js : List Submission). IsLawfulSoFar config detail js old.disk.content (kept_of detail said)) jobs
           (begun_lawful config detail (history ++ last ∷ []) old.disk.content said (lines_at (after history start) last ++ End ∷ []) both (before_last config detail history last)
           (λ of. run_later config history last old.disk.content (honest_part (kept_of detail said)) (report_honest_run config detail history old.disk new.disk (history_first config detail history last both) long s.disk of)));
       kept = λ fixed. content_kept config history old.disk new.disk fixed s.disk;
@@ -275,7 +275,7 @@ stopped_at_end config events why old before new same_disk long h s =
           (subst (λ (ls : List Line). IsHonest (kept_of detail ls) → IsOneCallPast config.sectors old.disk.content before.disk.content (kept_of detail ls)) (sym same) (carried_image config events old before long h));
       faults = inl (subst (λ (d : DiskSeen). IsRaised (faults_in (kept_of detail said)) old.disk.faults d.faults) (sym same_disk)
           (subst (λ (ls : List Line). IsRaised (faults_in (kept_of detail ls)) old.disk.faults before.disk.faults) (sym same) (report_raised config detail leads.history old.disk before.disk leads.disk)));
-      lawful = subst (λ (jobs : List Job). IsLawfulSoFar config detail jobs old.disk.content (kept_of detail said)) (events_submit events (start_of config) leads.history leads.is_kind)
+      lawful = subst (λ (jobs : List Submission). IsLawfulSoFar config detail jobs old.disk.content (kept_of detail said)) (events_submit events (start_of config) leads.history leads.is_kind)
           (begun_lawful config detail leads.history old.disk.content said (told.cut ∷ told.rest) whole all
           (subst (λ (ls : List Line). IsOfADisk config.sectors old.disk.content (honest_part (kept_of detail ls)) → HasRunSoFar (submitted config leads.history) old.disk.content (honest_part (kept_of detail ls))) (sym same)
           (report_honest_run config detail leads.history old.disk before.disk whole long leads.disk)));

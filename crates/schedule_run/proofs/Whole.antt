@@ -2,7 +2,7 @@
 use Rattle.std.proofs.Common.{◌≡◌, ℕ, ◌≤◌, ◌⊎◌, inl, inr, true, List, [], ◌∷◌, ◌++◌, Option, refl, ap, sym, ◌∙◌, subst, append_assoc, append-nil}
 use Rattle.std.proofs.lemmas.List.Elements.{filter_map-append}
 use Rattle.blk_base.specs.Options.{Options}
-use Rattle.blk_base.specs.declared.config.Job.{Job}
+use Rattle.blk_base.specs.declared.config.Submission.{Submission}
 use Rattle.blk_io.specs.Disk.{DiskSeen, HasLength}
 use Rattle.schedule_text.specs.declared.line.Detail.{Detail}
 use Rattle.schedule_text.specs.declared.line.Detail.TheVariants.{Moves}
@@ -33,7 +33,7 @@ use Rattle.schedule_run.proofs.Lawful as of_rings
 abbrev pub to_rings : Options → List Happening → List ring.Happening
 to_rings config history = all_does history (start_of config)
 
-abbrev pub submitted : Options → List Happening → List Job
+abbrev pub submitted : Options → List Happening → List Submission
 submitted config history = submitted_of (to_rings config history)
 
 -- a history of the machine with these options, brief enough

@@ -1,11 +1,11 @@
 -- What the reader does with a schedule's bytes as they come: it carries out the whole lines among them.
 use Rattle.std.specs.Prelude.{◌⊎◌, ◌≡◌, ℕ, ◌+◌, ◌*◌, ◌^◌, ◌<◌, ◌≤◌, min, List, [], ◌++◌, length, Option, Some, Result, Ok, Err, option_to_list}
-use Rattle.blk_io.specs.Outside.{Rose, SourceSeen}
+use Rattle.blk_io.specs.Outside.{Rose, SourceSeen, GivesBytes, FailsReading}
 use Rattle.blk_io.specs.Disk.{DiskSeen, attached_of}
 use Rattle.schedule_text.specs.declared.event.Event.{Event}
 use Rattle.schedule_text.specs.declared.recorder.RecordStop.{RecordStop}
 use Rattle.schedule_text.specs.declared.recorder.RecordStop.TheVariants as record_stop
-use Rattle.schedule_text.specs.Recorder.{RecorderSeen, FailsHandingOn}
+use Rattle.schedule_text.specs.Recorder.{RecorderSeen, HandsOnLines, FailsHandingOn}
 use Rattle.vbd_model.specs.Kind.{AreOfAll, AreOfSoFar}
 use Rattle.vbd_model.specs.Leads.{Leads, LeadsToStop, Moment, moment}
 use Rattle.schedule_run.specs.Machine.{Run}
@@ -35,7 +35,7 @@ pub record IsReadyToTake (n : ℕ) (s : ReadSoFar) : Type 0 where
   pub fits : length s.part ≤ 128
   pub few : 5 * s.events + length s.part + n ≤ 4294967296
   pub lines : s.lines + length s.part + n ≤ 4294967296
-  pub attached : attached_of s.at.disk ≡ Some s.at.world.rings.front.sectors
+  pub attached : attached_of s.at.disk ≡ Some s.at.world.rings.back.jobs.info.sectors
 
 -- the happenings of these events lead there
 abbrev pub EventsLead : List Event → Moment → Moment → Type 0
@@ -164,6 +164,13 @@ ReadStops limit a b stop.Source old new = Rose a.faults b.faults × Reads (λ ev
 ReadStops limit a b stop.TooLong old new = (b.faults ≡ a.faults) × Reads (λ events. Tells (λ bytes. IsTooLong limit bytes events) a.left) old new
 ReadStops limit a b stop.Sink old new = (b.faults ≡ a.faults) × (ReadsToStop a.left record_stop.Failed old new ⊎ ReadsUnsent a.left old new)
 ReadStops limit a b stop.OutOfMemory old new = (b.faults ≡ a.faults) × ReadsToStop a.left record_stop.OutOfMemory old new
+
+-- the recorder handed on what it kept back, and then the source gave bytes or failed; where the recorder failed, the source wasn't read
+abbrev pub ReadsHandedOn : List ℕ → Result ℕ RunStop → SourceSeen → SourceSeen → RecorderSeen → RecorderSeen → Type 0
+ReadsHandedOn buffer (Ok count) a b r s = HandsOnLines {E = Unit {0}} (Ok tt) r s × GivesBytes count buffer a b
+ReadsHandedOn buffer (Err stop.Source) a b r s = HandsOnLines {E = Unit {0}} (Ok tt) r s × FailsReading a b
+ReadsHandedOn buffer (Err stop.Sink) a b r s = FailsHandingOn r s × (b ≡ a)
+ReadsHandedOn buffer (Err why) a b r s = ⊥
 
 -- a source was read to its end, or reading it stopped
 abbrev pub ReadsAll : ℕ → Result (Unit {0}) RunStop → SourceSeen → SourceSeen → Moment → Moment → Type 0

@@ -4,7 +4,7 @@ use Rattle.blk_base.specs.Options.{Options}
 use Rattle.blk_base.specs.declared.parts.Mode.{Mode}
 use Rattle.blk_base.specs.declared.moves.BackMover.{BackMover}
 use Rattle.blk_base.specs.declared.moves.Move.TheVariants as moves
-use Rattle.blk_base.specs.declared.config.Job.{Job}
+use Rattle.blk_base.specs.declared.config.Submission.{Submission}
 use Rattle.grant_table.specs.Entry.{is_for_writing}
 use Rattle.schedule_text.specs.declared.line.Detail.{Detail}
 use Rattle.schedule_text.specs.declared.line.Detail.TheVariants.{Moves}
@@ -49,5 +49,5 @@ pub record KeepsTheHeadline (config : Options) (detail : Detail) (before now : O
 -- so is each lawful report
 abbrev pub LawfulKeepsTheHeadline : Type 0
 LawfulKeepsTheHeadline =
-    (config : Options) (detail : Detail) (jobs : List Job) (before now : Option (List (List ℕ))) (report : List Line)
+    (config : Options) (detail : Detail) (jobs : List Submission) (before now : Option (List (List ℕ))) (report : List Line)
     → IsLawful config detail jobs before now report → KeepsTheHeadline config detail before now report

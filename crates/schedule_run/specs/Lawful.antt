@@ -1,7 +1,7 @@
 -- What every report of a run tells, whatever its schedule: `report_rules`, `plain_disk`, `pipeline_laws` and `report_laws` have the rules.
 use Rattle.std.specs.Prelude.{◌≡◌, ℕ, ◌+◌, ◌≤◌, ◌⊎◌, Bool, true, false, List, ◌++◌, length, filter, Option, Result, Ok, Err, All}
 use Rattle.blk_base.specs.Options.{Options}
-use Rattle.blk_base.specs.declared.config.Job.{Job}
+use Rattle.blk_base.specs.declared.config.Submission.{Submission}
 use Rattle.blk_io.specs.Outside.{SourceSeen}
 use Rattle.schedule_text.specs.declared.event.Event.{Event}
 use Rattle.schedule_text.specs.declared.line.Detail.{Detail}
@@ -10,7 +10,7 @@ use Rattle.schedule_text.specs.declared.line.Line.{Line}
 use Rattle.schedule_text.specs.declared.line.Line.TheVariants as lines
 use Rattle.schedule_text.specs.declared.recorder.RecordStop.{RecordStop}
 use Rattle.schedule_text.specs.declared.recorder.RecordStop.TheVariants as record_stop
-use Rattle.schedule_text.specs.Range.{JobHasWidths}
+use Rattle.schedule_text.specs.Range.{SubmissionHasWidths}
 use Rattle.schedule_text.specs.Recorder.{Told, gained, recorded, StopsWithin}
 use Rattle.report_rules.specs.Obeys.{Obeys}
 use Rattle.report_rules.specs.Coherent.{IsCoherent}
@@ -85,7 +85,7 @@ pub record HasCauses (report : List Line) : Type 0 where
   pub states : StandAsSaid report
 
 -- a report is a run of the plain disk, from what the disk held to what it holds; it answers these submissions, one line each, as the lines before say; each request has at most one answer; at each `quiet` line all have theirs; no line of it is a breach of the protocol, and the front connects and closes in order
-pub record ServesRequests (config : Options) (jobs : List Job) (before now : Option (List (List ℕ))) (report : List Line) : Type 0 where
+pub record ServesRequests (config : Options) (jobs : List Submission) (before now : Option (List (List ℕ))) (report : List Line) : Type 0 where
   pub disk : IsRun config.sectors before now report
   pub submissions : AreAnswered jobs report
   pub once : AreAnsweredOnce report
@@ -94,7 +94,7 @@ pub record ServesRequests (config : Options) (jobs : List Job) (before now : Opt
   pub states : AreStates report
 
 -- so is the beginning of one, as far as it was written
-pub record ServesRequestsSoFar (jobs : List Job) (before : Option (List (List ℕ))) (report : List Line) : Type 0 where
+pub record ServesRequestsSoFar (jobs : List Submission) (before : Option (List (List ℕ))) (report : List Line) : Type 0 where
   pub disk : IsRunSoFar before report
   pub submissions : Obeys (IsAnswerAt jobs) report
   pub once : AreAnsweredOnce report
@@ -103,7 +103,7 @@ pub record ServesRequestsSoFar (jobs : List Job) (before : Option (List (List �
   pub states : AreStates report
 
 -- a report begins with the options; its lines are lines of the grammar that its text gives back; a read-only disk holds what it held; each submission has the answer of the first rule that applies, as the lines before it say, also after a hostile line; and where it shows the moves, they obey the rules, the front makes at most 4 ports in an epoch, and each `halt`, each `broken`, each `answer` and each line of the front's state stands exactly where its cause does, whatever a hostile hand overwrites. A report that no hostile hand touched serves its requests as the plain disk does, from what the disk held to what it holds, where the disk tells that, or what the report shows of it are the calls of a disk. Of any other, the lines before the first hostile one do so, the front was connected before the first `quiet` line of them, and where moves are shown the ring is served and read at each of their `quiet` lines, and both ends have said that they are connected, or, after a `closing` line, that they are closed
-pub record IsLawful (config : Options) (detail : Detail) (jobs : List Job) (before now : Option (List (List ℕ))) (report : List Line) : Type 0 where
+pub record IsLawful (config : Options) (detail : Detail) (jobs : List Submission) (before now : Option (List (List ℕ))) (report : List Line) : Type 0 where
   pub begun : IsBegun config detail report
   pub kept : config.read_only ≡ true → now ≡ before
   pub grammar : IsInGrammar report
@@ -119,7 +119,7 @@ pub record IsLawful (config : Options) (detail : Detail) (jobs : List Job) (befo
   pub work : detail ≡ Moves → ShowsWork report
 
 -- so is the beginning of one, as far as it was written
-pub record IsLawfulSoFar (config : Options) (detail : Detail) (jobs : List Job) (before : Option (List (List ℕ))) (report : List Line) : Type 0 where
+pub record IsLawfulSoFar (config : Options) (detail : Detail) (jobs : List Submission) (before : Option (List (List ℕ))) (report : List Line) : Type 0 where
   pub begun : IsBegunSoFar config detail report
   pub grammar : IsInGrammar report
   pub refusals : AreRuled jobs report
@@ -139,7 +139,7 @@ pub record HasLawfulReport (config : Options) (events : List Event) (old new : O
   pub echo : AnswersAll config.order events (filter is_echo report)
   pub parts : IsByEvents config old.recorder.detail events report
   pub faults : IsRaised (faults_in report) old.disk.faults new.disk.faults
-  pub widths : All JobHasWidths (jobs_of events)
+  pub widths : All SubmissionHasWidths (jobs_of events)
   pub lawful : IsLawful config old.recorder.detail (jobs_of events) old.disk.content new.disk.content report
 
 -- these lines were told; and where the recorder failed at most a beginning of one more, but for want of memory none
@@ -196,7 +196,7 @@ pub record IsLawfulRun (config : Options) (limit : ℕ) (left : Option (List ℕ
   pub echo : Echoes config old.recorder.detail events report
   pub parts : IsAllByEvents config old.recorder.detail events report
   pub faults : IsRaised (faults_in report) old.disk.faults new.disk.faults
-  pub widths : All JobHasWidths (jobs_of events)
+  pub widths : All SubmissionHasWidths (jobs_of events)
   pub lawful : IsLawful config old.recorder.detail (jobs_of events) old.disk.content new.disk.content report
 
 -- events of which this is so were carried out, and a lawful report of them was told

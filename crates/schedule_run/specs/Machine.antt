@@ -1,5 +1,6 @@
 -- What contracts see of the runner's machine.
 use Rattle.std.specs.Prelude.{◌≡◌, ℕ, ◌*◌, ◌^◌, ◌≤◌, List}
+use Rattle.vbd_laws.specs.Waits.{FrontWaitsAfter, BackWaitsAfter, JobWaitsAfter}
 use Rattle.blk_base.specs.Options.{Options}
 use Rattle.machine_pipeline.specs.Plain.{IsPlain}
 use Rattle.vbd_model.specs.World.{World, start_of}
@@ -26,3 +27,13 @@ pub record IsReached (w : World) : Type 0 where
 pub record IsRunning (w : World) (events : ℕ) : Type 0 where
   pub counts : HasSmallCounts w events
   pub reached : IsReached w
+
+-- after this history each end, and each job, waits exactly in its cases
+pub record WaitsAfter (config : Options) (history : List Happening) : Type 0 where
+  pub front : FrontWaitsAfter config history
+  pub back : BackWaitsAfter config history
+  pub job : (number : ℕ) → JobWaitsAfter config history number
+
+-- so it is of this machine, by whatever happenings led to it
+abbrev pub WaitsByCauses : World → Type 0
+WaitsByCauses w = (config : Options) (history : List Happening) → config.indirect ≤ 960 → w ≡ after history (start_of config) → WaitsAfter config history

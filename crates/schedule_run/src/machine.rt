@@ -9,6 +9,7 @@ ghost use Rattle.vbd_model.specs.Kind.{AreOf, AreOfSoFar, Makes, MakesSoFar, is_
 ghost use Rattle.vbd_model.specs.Leads.{Goes, moment};
 ghost use Rattle.schedule_run.specs.Outcome.{Outside, HasCarried, IsServed, content_of};
 ghost use Rattle.schedule_run.specs.Lawful.{EventLeaves};
+ghost use Rattle.schedule_run.specs.Machine.{WaitsByCauses};
 
 use crate::split::Split;
 use blk_base::{Config, OutOfMemory};
@@ -65,7 +66,8 @@ impl Machine {
     ///
     /// Whoever makes a machine, adds a `begin` line with its options (`a_run_begins`) and then carries
     /// out events has a lawful report after each of them, where disk and recorder expose what they
-    /// hold: a run of the plain disk, and more. It speaks of real domains as far as their shared words
+    /// hold: a run of the plain disk, and more. Whatever happened, each end asks to wait in three cases
+    /// alone, and a job in three (`waits`). It speaks of real domains as far as their shared words
     /// are sequentially consistent and a hypercall is one step.
     pub fn event<D: SectorDisk, R: Recorder>(
         &mut self,
@@ -75,7 +77,7 @@ impl Machine {
     ) -> Result<(), RecordStop>
         requires carried { is_carried event ≡ true }
         requires few { self.old.events < 10 ^ 9 }
-        requires attached { attached_of (D.seen disk.old) ≡ Some self.old.world.rings.front.sectors }
+        requires attached { attached_of (D.seen disk.old) ≡ Some self.old.world.rings.back.jobs.info.sectors }
         ensures goes { Goes (AreOf event self.old.world) (AreOfSoFar event self.old.world) (10 ^ 10) result
             (moment self.old.world (D.seen disk.old) (R.seen recorder.old))
             (moment self.new.world (D.seen disk.new) (R.seen recorder.new)) }
@@ -84,6 +86,7 @@ impl Machine {
             → HasLength (content_of begin) config.sectors
             → HasCarried config events begin (moment self.old.world (D.seen disk.old) (R.seen recorder.old))
             → EventLeaves config (events ++ event ∷ []) begin result (moment self.new.world (D.seen disk.new) (R.seen recorder.new)) }
+        ensures waits { WaitsByCauses self.new.world }
     {
         self.do_event(event, disk, recorder)
     }
@@ -97,7 +100,7 @@ impl Machine {
     ) -> Result<(), RecordStop>
         requires carried { is_carried event ≡ true }
         requires few { self.old.events < 10 ^ 9 }
-        requires attached { attached_of (D.seen disk.old) ≡ Some self.old.world.rings.front.sectors }
+        requires attached { attached_of (D.seen disk.old) ≡ Some self.old.world.rings.back.jobs.info.sectors }
         ensures goes { Goes (Makes event self.old.world) (MakesSoFar event self.old.world) (10 ^ 10) result
             (moment self.old.world (D.seen disk.old) (R.seen recorder.old))
             (moment self.new.world (D.seen disk.new) (R.seen recorder.new)) }

@@ -7,13 +7,15 @@ ghost use Rattle.hypervisor.specs.May.{MayShow};
 ghost use Rattle.schedule_run.specs.Following.{Follows, frontend_lines};
 ghost use Rattle.vbd_front.specs.View.{heard};
 ghost use Rattle.vbd_model.specs.News.{news_lines};
-ghost use Rattle.split_model.specs.Shown.{front_lines, back_lines, halt_lines, halt_line, effect_line, refusal_word};
+ghost use Rattle.split_model.specs.Shown.{front_lines, back_lines, halt_lines, effect_line};
 
-use blk_back::{BackTold, Halt};
-use blk_base::{Access, BackAnswer, BackAsk, BackMover, FrontAnswer, FrontAsk, Job, Move};
-use blk_front::{Refusal, Told};
+use blk_back::BackTold;
+use blk_base::{
+    Access, BackAnswer, BackAsk, BackMover, FrontAnswer, FrontAsk, Halt, Move, Refusal, Submission,
+};
+use blk_front::Told;
 use hypervisor::{Hypervisor, front_access, front_shown};
-use schedule_text::{Halt as HaltLine, Line, RecordStop, Recorder, Refusal as RefusalWord, Shown};
+use schedule_text::{Line, RecordStop, Recorder, Shown};
 use vbd_front::Frontend;
 use xenbus_state::FrontNews;
 
@@ -232,7 +234,7 @@ fn say_back<R: Recorder>(
 fn say_halt<R: Recorder>(recorder: &mut R, halt: Halt) -> Result<(), RecordStop>
     ensures { Adds (halt_lines None (Some halt)) result (R.seen recorder.old) (R.seen recorder.new) }
 {
-    recorder.add(&Line::Halt(halt_word(halt)))
+    recorder.add(&Line::Halt(halt))
 }
 
 // What happened at the front.
@@ -280,48 +282,15 @@ fn effect_line(id: u64, index: u32, answer: &BackAnswer) -> Line
     }
 }
 
-fn halt_word(halt: Halt) -> HaltLine
-    ensures { result ≡ halt_line halt }
-{
-    match halt {
-        Halt::Overrun { prod, rsp_prod } => HaltLine::Overrun {
-            produced: prod,
-            replied: rsp_prod,
-        },
-        Halt::Gone(state) => HaltLine::Gone(state),
-        Halt::Unplugged(state) => HaltLine::Unplugged(state),
-        Halt::BadKey(name) => HaltLine::BadKey(name),
-        Halt::BadOrder(state) => HaltLine::BadOrder(state),
-        Halt::BadPort(port) => HaltLine::BadPort(port),
-        Halt::MapRefused { gref, status } => HaltLine::MapRefused { gref, status },
-    }
-}
-
 /// The answer to a submission.
-pub fn submit_line(job: Job, answer: Result<u32, Refusal>) -> Line
-    ensures { result ≡ submit_line job answer }
+pub fn submit_line(submission: Submission, answer: Result<u32, Refusal>) -> Line
+    ensures { result ≡ submit_line submission answer }
 {
     match answer {
         Ok(number) => Line::Submit {
             id: u64::from(number),
-            job,
+            submission,
         },
-        Err(refusal) => Line::Refuse(refusal_word(refusal)),
-    }
-}
-
-fn refusal_word(refusal: Refusal) -> RefusalWord
-    ensures { result ≡ refusal_word refusal }
-{
-    match refusal {
-        Refusal::Spent => RefusalWord::Spent,
-        Refusal::Closing => RefusalWord::Closing,
-        Refusal::NotReady => RefusalWord::NotReady,
-        Refusal::Unsupported => RefusalWord::Unsupported,
-        Refusal::ReadOnly => RefusalWord::ReadOnly,
-        Refusal::Range => RefusalWord::Range,
-        Refusal::Long => RefusalWord::Long,
-        Refusal::Full => RefusalWord::Full,
-        Refusal::Buffers => RefusalWord::Buffers,
+        Err(refusal) => Line::Refuse(refusal),
     }
 }

@@ -2,7 +2,7 @@
 ghost use Rattle.std.specs.Prelude.{◌≡◌, ◌<◌, ◌∷◌, [], true, IfOk};
 ghost use Rattle.blk_base.specs.declared.parts.Mode.TheVariants.{ReadWrite};
 ghost use Rattle.blk_io.specs.Disk.{DiskSeen};
-ghost use Rattle.schedule_text.specs.Range.{JobHasWidths};
+ghost use Rattle.schedule_text.specs.Range.{SubmissionHasWidths};
 ghost use Rattle.grant_table.specs.Table.{IsLive};
 ghost use Rattle.hypervisor.specs.May.{IsPlace};
 ghost use Rattle.blk_back.specs.Step.{job_ask_of};
@@ -15,8 +15,8 @@ ghost use Rattle.schedule_run.specs.Going.{FrontGoes, BackGoes, JobGoes};
 
 use crate::showing::{follow_back, follow_job, follow_told, show_back, show_front, submit_line};
 use blk_base::{
-    BackAnswer, BackAsk, BackMover, Config, End, Endpoint, FrontAnswer, FrontAsk, Job, Mapping,
-    OutOfMemory,
+    BackAnswer, BackAsk, BackMover, Config, End, Endpoint, FrontAnswer, FrontAsk, Mapping,
+    OutOfMemory, Submission,
 };
 use blk_io::SectorDisk;
 use hypervisor::{Hypervisor, Room};
@@ -112,7 +112,7 @@ impl Split {
     {
         let answer = FrontAnswer::Done;
         // A frontend takes no memory once it is made.
-        let _ = self.front.complete(&answer);
+        let _ = self.front.tell(&answer);
         self.under.write_front(frame, word, value);
         let shown = show_front(recorder, &FrontAsk::Write { frame, word, value }, &answer);
         follow_told(&mut self.front, recorder, shown)
@@ -132,7 +132,7 @@ impl Split {
     {
         let answer = FrontAnswer::Word(self.under.read_front(frame, word));
         // A frontend takes no memory once it is made.
-        let _ = self.front.complete(&answer);
+        let _ = self.front.tell(&answer);
         let shown = show_front(recorder, &FrontAsk::Read { frame, word }, &answer);
         follow_told(&mut self.front, recorder, shown)
     }
@@ -151,7 +151,7 @@ impl Split {
         };
         let shown = show_front(recorder, &ask, &answer);
         // A frontend takes no memory once it is made.
-        let _ = self.front.complete(&answer);
+        let _ = self.front.tell(&answer);
         follow_told(&mut self.front, recorder, shown)
     }
 
@@ -194,7 +194,7 @@ impl Split {
             return Ok(());
         };
         let shown = show_back(recorder, &self.under, BackMover::Back, &ask, &answer);
-        let _ = self.back.complete(&answer);
+        let _ = self.back.tell(&answer);
         let told = self.back.take_told();
         follow_back(recorder, shown, told, &answer, before, self.back.halted())
     }
@@ -241,7 +241,7 @@ impl Split {
     {
         let who = BackMover::Job(number);
         let answer = BackAnswer::Word(self.under.read(mapping, word));
-        self.back.job_complete(number, &answer);
+        self.back.job_tell(number, &answer);
         let told = self.back.take_told();
         let ask = BackAsk::Read { mapping, word };
         let shown = show_back(recorder, &self.under, who, &ask, &answer);
@@ -269,7 +269,7 @@ impl Split {
         let who = BackMover::Job(number);
         let answer = BackAnswer::Done;
         self.under.write(mapping, word, value);
-        self.back.job_complete(number, &answer);
+        self.back.job_tell(number, &answer);
         let told = self.back.take_told();
         let ask = BackAsk::Write {
             mapping,
@@ -302,14 +302,18 @@ impl Split {
             return Ok(());
         };
         let shown = show_back(recorder, &self.under, who, &ask, &answer);
-        self.back.job_complete(number, &answer);
+        self.back.job_tell(number, &answer);
         let told = self.back.take_told();
         follow_job(recorder, shown, told, &answer)
     }
 
     /// A request is handed to the front.
-    pub fn submit<R: Recorder>(&mut self, job: Job, recorder: &mut R) -> Result<(), RecordStop>
-        ensures widths { JobHasWidths job }
+    pub fn submit<R: Recorder>(
+        &mut self,
+        job: Submission,
+        recorder: &mut R,
+    ) -> Result<(), RecordStop>
+        ensures widths { SubmissionHasWidths job }
         ensures goes { (disk : DiskSeen) → Goes (Is (Submits job ∷ [])) (Is (Submits job ∷ [])) 0 result
             (moment self.old disk (R.seen recorder.old))
             (moment self.new disk (R.seen recorder.new)) }

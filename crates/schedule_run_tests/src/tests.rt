@@ -20,7 +20,7 @@ mod sectors;
 mod stops;
 
 use crate::expected::same;
-use blk_base::{Config, Job, SectorCount};
+use blk_base::{Config, SectorCount, Submission};
 use blk_io::SectorDisk;
 use image_disk::MemoryDisk;
 use report::{attached, plain_config, zeros};
@@ -33,7 +33,7 @@ use std::process::Abort;
 fn tells_a_write<D: SectorDisk, R: Recorder>(
     machine: &mut Machine,
     config: Config,
-    write: Job,
+    write: Submission,
     disk: &mut D,
     recorder: &mut R,
 ) -> Result<(), RecordStop>
@@ -57,7 +57,7 @@ fn tells_a_write<D: SectorDisk, R: Recorder>(
 fn writes_a_sector<D: SectorDisk, R: Recorder>(
     alloc: Global,
     config: Config,
-    write: Job,
+    write: Submission,
     disk: &mut D,
     recorder: &mut R,
 ) -> Result<(), RecordStop>
@@ -77,7 +77,7 @@ fn writes_a_sector<D: SectorDisk, R: Recorder>(
 fn lists_a_write(
     alloc: Global,
     config: Config,
-    write: Job,
+    write: Submission,
     disk: &mut MemoryDisk,
 ) -> Result<LineList, RecordStop>
     requires carried { are_carried config ≡ true }
@@ -90,13 +90,13 @@ fn lists_a_write(
     Ok(list)
 }
 
-fn list_of(rt: &impl Abort, alloc: Global, write: Job, disk: &mut MemoryDisk) -> LineList {
+fn list_of(rt: &impl Abort, alloc: Global, write: Submission, disk: &mut MemoryDisk) -> LineList {
     let config = plain_config(attached(rt, disk));
     lists_a_write(alloc, config, write, disk).expect(rt, "memory")
 }
 
 // On a disk of eight sectors of zeros.
-fn lists(rt: &impl Abort, alloc: Global, write: Job) {
+fn lists(rt: &impl Abort, alloc: Global, write: Submission) {
     let mut disk = zeros(rt, alloc, 8);
     let list = list_of(rt, alloc, write, &mut disk);
     same(rt, list.lines.len(), 9);
@@ -107,7 +107,7 @@ fn lists(rt: &impl Abort, alloc: Global, write: Job) {
 #[test]
 fn a_list_holds_a_lawful_report(rt: HostRuntime) {
     let count = SectorCount::new(1).expect(&rt, "a count above 0");
-    let write = Job::Write {
+    let write = Submission::Write {
         sector: 3,
         count,
         tag: 7,

@@ -16,8 +16,8 @@ use Rattle.blk_base.specs.declared.operation.Status.{Status}
 use Rattle.blk_base.specs.declared.operation.Status.TheVariants.{Okay, Error, Unsupported}
 use Rattle.blk_base.specs.declared.parts.Mode.{Mode}
 use Rattle.blk_base.specs.declared.parts.Mode.TheVariants.{ReadOnly, ReadWrite}
-use Rattle.blk_base.specs.declared.config.Job.{Job}
-use Rattle.blk_base.specs.declared.config.Job.TheVariants as jobs
+use Rattle.blk_base.specs.declared.config.Submission.{Submission}
+use Rattle.blk_base.specs.declared.config.Submission.TheVariants as submissions
 use Rattle.blk_base.specs.declared.moves.BackMover.{BackMover}
 use Rattle.blk_base.specs.declared.moves.BackMover.TheVariants as back_mover
 use Rattle.blk_base.specs.declared.moves.Mover.{Mover}
@@ -27,14 +27,14 @@ use Rattle.blk_base.specs.declared.moves.Move.TheVariants as moves
 use Rattle.blk_base.specs.Options.{Options}
 use Rattle.schedule_text.specs.declared.line.Detail.{Detail}
 use Rattle.schedule_text.specs.declared.line.Detail.TheVariants.{Lines, Moves}
-use Rattle.schedule_text.specs.declared.line.Refusal.{Refusal}
-use Rattle.schedule_text.specs.declared.line.Refusal.TheVariants as refusal
-use Rattle.schedule_text.specs.declared.line.Halt.{Halt}
-use Rattle.schedule_text.specs.declared.line.Halt.TheVariants as halts
+use Rattle.blk_base.specs.declared.refusal.Refusal.{Refusal}
+use Rattle.blk_base.specs.declared.refusal.Refusal.TheVariants as refusal
+use Rattle.blk_base.specs.declared.halt.Halt.{Halt}
+use Rattle.blk_base.specs.declared.halt.Halt.TheVariants as halts
 use Rattle.schedule_text.specs.declared.line.Line.{Line}
 use Rattle.schedule_text.specs.declared.line.Line.TheVariants as lines
-use Rattle.schedule_text.specs.Line.{words_of, abi_word, access_word, detail_word, status_word, refusal_word, job_words, halt_words, mover_words, back_words, mode_word, move_words}
-use Rattle.schedule_text.specs.Range.{IsInRange, IsCount, JobHasWidths, HaltHasWidths, MoverHasWidths, BackHasWidths, MoveHasWidths, AreOptions, is_halt_allowed, is_move_allowed, is_mover_allowed}
+use Rattle.schedule_text.specs.Line.{words_of, abi_word, access_word, detail_word, status_word, refusal_word, submission_words, halt_words, mover_words, back_words, mode_word, move_words}
+use Rattle.schedule_text.specs.Range.{IsInRange, IsCount, SubmissionHasWidths, HaltHasWidths, MoverHasWidths, BackHasWidths, MoveHasWidths, AreOptions, is_halt_allowed, is_move_allowed, is_mover_allowed}
 use Rattle.schedule_text.specs.Reading.{line_at, small_of, move_by, status_at, detail_at, refusal_at, mode_at}
 
 abi_again : (abi : Abi) → cond (bytes_eq (abi_word abi) (codes "64")) X64 X32 ≡ abi
@@ -85,13 +85,13 @@ halt_line_again (halts.BadOrder s) h e = rw (small_again s h) refl
 halt_line_again (halts.BadPort p) h e = rw (small_again p h) refl
 halt_line_again (halts.MapRefused g s) h e = rw (small_again g h.0, signed_again s h.1) refl
 
-submit_again : (id : ℕ) (job : Job) → id < 2 ^ 64 → JobHasWidths job → line_at (codes "submit" ∷ decimal id ∷ job_words job) ≡ lines.Submit id job
+submit_again : (id : ℕ) (job : Submission) → id < 2 ^ 64 → SubmissionHasWidths job → line_at (codes "submit" ∷ decimal id ∷ submission_words job) ≡ lines.Submit id job
 unfolding line_at
-submit_again id (jobs.Read s c) a h = rw (number_again id a, number_again s h.0, count_again c h.1) refl
-submit_again id (jobs.Write s c t) a h = rw (number_again id a, number_again s h.0, count_again c h.1, hex_again t h.2) refl
-submit_again id (jobs.Barrier s c t) a h = rw (number_again id a, number_again s h.0, count_again c h.1, hex_again t h.2) refl
-submit_again id jobs.Flush a h = rw (number_again id a) refl
-submit_again id (jobs.Discard s c) a h = rw (number_again id a, number_again s h.0, count_again c h.1) refl
+submit_again id (submissions.Read s c) a h = rw (number_again id a, number_again s h.0, count_again c h.1) refl
+submit_again id (submissions.Write s c t) a h = rw (number_again id a, number_again s h.0, count_again c h.1, hex_again t h.2) refl
+submit_again id (submissions.Barrier s c t) a h = rw (number_again id a, number_again s h.0, count_again c h.1, hex_again t h.2) refl
+submit_again id submissions.Flush a h = rw (number_again id a) refl
+submit_again id (submissions.Discard s c) a h = rw (number_again id a, number_again s h.0, count_again c h.1) refl
 
 -- ---- moves: who moves, and then what
 
@@ -241,7 +241,7 @@ line_again lines.Ready h = refl
 line_again lines.Closing h = refl
 line_again lines.Closed h = refl
 line_again (lines.Broken w) h = rw (hex_again w h.widths) refl
-line_again (lines.Submit id job) h = submit_again id job h.widths.0 h.widths.1
+line_again (lines.Submit id submission) h = submit_again id submission h.widths.0 h.widths.1
 line_again (lines.Refuse r) h = rw (refusal_again r) refl
 line_again (lines.Effect id index) h = rw (number_again id h.widths.0, small_again index h.widths.1) refl
 line_again (lines.EffectRead id index words) h = (sector_line id index words h.widths.0 h.widths.1 h.widths.2).0

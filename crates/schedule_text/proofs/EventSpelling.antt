@@ -7,18 +7,18 @@ use Rattle.line_text.specs.Texts.{is_key_name, is_key_text}
 use Rattle.line_text.proofs.Again.{number_again, small_again, hex_again}
 use Rattle.line_text.proofs.TextLemmas.{name_again, key_text_again}
 use Rattle.line_text.proofs.Solid.{is_solid, solid, solid_again, solid_decimal}
-use Rattle.blk_base.specs.declared.config.Job.{Job}
-use Rattle.blk_base.specs.declared.config.Job.TheVariants as jobs
+use Rattle.blk_base.specs.declared.config.Submission.{Submission}
+use Rattle.blk_base.specs.declared.config.Submission.TheVariants as submissions
 use Rattle.blk_base.specs.declared.parts.End.{End}
 use Rattle.blk_base.specs.declared.parts.End.TheVariants as ends
 use Rattle.schedule_text.specs.declared.event.Event.{Event}
 use Rattle.schedule_text.specs.declared.event.Event.TheVariants as events
-use Rattle.schedule_text.specs.Line.{job_words}
-use Rattle.schedule_text.specs.Range.{JobHasWidths}
+use Rattle.schedule_text.specs.Line.{submission_words}
+use Rattle.schedule_text.specs.Range.{SubmissionHasWidths}
 use Rattle.schedule_text.specs.Event.{event_words, event_text, end_word, EventHasWidths, is_event_allowed, IsEventOf}
 use Rattle.schedule_text.specs.EventReading.{event_at, end_at}
 use Rattle.schedule_text.proofs.Again.{count_again}
-use Rattle.schedule_text.proofs.Solid.{solid_job}
+use Rattle.schedule_text.proofs.Solid.{solid_submission}
 
 end_again : (end : End) → end_at (end_word end) ≡ end
 end_again ends.Front = refl
@@ -28,17 +28,17 @@ solid_end : (end : End) → is_solid (end_word end) ≡ true
 solid_end ends.Front = refl
 solid_end ends.Back = refl
 
-submit_again : (job : Job) → JobHasWidths job → event_at (codes "submit" ∷ job_words job) ≡ events.Submit job
+submit_again : (job : Submission) → SubmissionHasWidths job → event_at (codes "submit" ∷ submission_words job) ≡ events.Submit job
 unfolding event_at
-submit_again (jobs.Read s c) h = rw (number_again s h.0, count_again c h.1) refl
-submit_again (jobs.Write s c t) h = rw (number_again s h.0, count_again c h.1, hex_again t h.2) refl
-submit_again (jobs.Barrier s c t) h = rw (number_again s h.0, count_again c h.1, hex_again t h.2) refl
-submit_again jobs.Flush h = refl
-submit_again (jobs.Discard s c) h = rw (number_again s h.0, count_again c h.1) refl
+submit_again (submissions.Read s c) h = rw (number_again s h.0, count_again c h.1) refl
+submit_again (submissions.Write s c t) h = rw (number_again s h.0, count_again c h.1, hex_again t h.2) refl
+submit_again (submissions.Barrier s c t) h = rw (number_again s h.0, count_again c h.1, hex_again t h.2) refl
+submit_again submissions.Flush h = refl
+submit_again (submissions.Discard s c) h = rw (number_again s h.0, count_again c h.1) refl
 
 event_again : (event : Event) → EventHasWidths event → is_event_allowed event ≡ true → event_at (event_words event) ≡ event
 unfolding event_at
-event_again (events.Submit job) h e = submit_again job h
+event_again (events.Submit submission) h e = submit_again submission h
 event_again (events.Front n) h e = rw (small_again n h) refl
 event_again (events.Back n) h e = rw (small_again n h) refl
 event_again (events.Job k n) h e = rw (small_again k h.0, small_again n h.1) refl
@@ -58,7 +58,7 @@ small : (n : ℕ) → n < 2 ^ 32 → is_solid (decimal n) ≡ true
 small n fits = solid_decimal n (omega arith)
 
 solid_event : (event : Event) → EventHasWidths event → is_event_allowed event ≡ true → list_all is_solid (event_words event) ≡ true
-solid_event (events.Submit job) h e = solid_job job h
+solid_event (events.Submit submission) h e = solid_submission submission h
 solid_event (events.Front n) h e = rw (small n h) refl
 solid_event (events.Back n) h e = rw (small n h) refl
 solid_event (events.Job k n) h e = rw (small k h.0, small n h.1) refl
@@ -75,7 +75,7 @@ solid_event (events.Key name text) h e =
 solid_event events.Dump h e = refl
 
 some_words : (event : Event) → event_words event ≡ [] → ⊥
-some_words (events.Submit job) e = absurd cc
+some_words (events.Submit submission) e = absurd cc
 some_words event e = absurd cc
 
 again_if : (words : List (List ℕ)) → (words ≡ [] → ⊥) → list_all is_solid words ≡ true → words_in (joined words) ≡ words

@@ -6,8 +6,8 @@ use Rattle.blk_base.specs.declared.operation.Status.{Status}
 use Rattle.blk_base.specs.declared.operation.Status.TheVariants.{Okay, Error, Unsupported}
 use Rattle.blk_base.specs.declared.parts.Mode.{Mode}
 use Rattle.blk_base.specs.declared.parts.Mode.TheVariants.{ReadOnly, ReadWrite}
-use Rattle.blk_base.specs.declared.config.Job.{Job}
-use Rattle.blk_base.specs.declared.config.Job.TheVariants as jobs
+use Rattle.blk_base.specs.declared.config.Submission.{Submission}
+use Rattle.blk_base.specs.declared.config.Submission.TheVariants as submissions
 use Rattle.blk_base.specs.declared.moves.BackMover.{BackMover}
 use Rattle.blk_base.specs.declared.moves.BackMover.TheVariants as back_mover
 use Rattle.blk_base.specs.declared.moves.Mover.{Mover}
@@ -18,14 +18,14 @@ use Rattle.line_text.proofs.Both.{both_true}
 use Rattle.line_text.specs.Texts.{is_key_name, is_key_text, is_key_path}
 use Rattle.schedule_text.specs.declared.line.Detail.{Detail}
 use Rattle.schedule_text.specs.declared.line.Detail.TheVariants.{Lines, Moves}
-use Rattle.schedule_text.specs.declared.line.Refusal.{Refusal}
-use Rattle.schedule_text.specs.declared.line.Refusal.TheVariants as refusal
-use Rattle.schedule_text.specs.declared.line.Halt.{Halt}
-use Rattle.schedule_text.specs.declared.line.Halt.TheVariants as halts
+use Rattle.blk_base.specs.declared.refusal.Refusal.{Refusal}
+use Rattle.blk_base.specs.declared.refusal.Refusal.TheVariants as refusal
+use Rattle.blk_base.specs.declared.halt.Halt.{Halt}
+use Rattle.blk_base.specs.declared.halt.Halt.TheVariants as halts
 use Rattle.schedule_text.specs.declared.line.Line.{Line}
 use Rattle.schedule_text.specs.declared.line.Line.TheVariants as lines
-use Rattle.schedule_text.specs.Line.{words_of, abi_word, access_word, detail_word, status_word, refusal_word, job_words, halt_words, mover_words, back_words, mode_word, move_words}
-use Rattle.schedule_text.specs.Range.{IsInRange, JobHasWidths, HaltHasWidths, MoverHasWidths, BackHasWidths, MoveHasWidths, is_halt_allowed, is_move_allowed, is_mover_allowed}
+use Rattle.schedule_text.specs.Line.{words_of, abi_word, access_word, detail_word, status_word, refusal_word, submission_words, halt_words, mover_words, back_words, mode_word, move_words}
+use Rattle.schedule_text.specs.Range.{IsInRange, SubmissionHasWidths, HaltHasWidths, MoverHasWidths, BackHasWidths, MoveHasWidths, is_halt_allowed, is_move_allowed, is_mover_allowed}
 use Rattle.schedule_text.proofs.NarrowWords.{is_narrow, AreNarrow, narrow_decimal, small, narrow_hex, narrow_signed, narrow_name, narrow_text, narrow_equals, narrow_path}
 
 narrow_abi : (abi : Abi) → is_narrow (abi_word abi) ≡ true
@@ -60,12 +60,12 @@ narrow_mode : (m : Mode) → is_narrow (mode_word m) ≡ true
 narrow_mode ReadOnly = refl
 narrow_mode ReadWrite = refl
 
-pub narrow_job : (job : Job) → JobHasWidths job → AreNarrow (job_words job)
-narrow_job (jobs.Read s c) h = rw (narrow_decimal s h.0, small c h.1.1) refl
-narrow_job (jobs.Write s c t) h = rw (narrow_decimal s h.0, small c h.1.1, narrow_hex t) refl
-narrow_job (jobs.Barrier s c t) h = rw (narrow_decimal s h.0, small c h.1.1, narrow_hex t) refl
-narrow_job jobs.Flush h = refl
-narrow_job (jobs.Discard s c) h = rw (narrow_decimal s h.0, small c h.1.1) refl
+pub narrow_submission : (job : Submission) → SubmissionHasWidths job → AreNarrow (submission_words job)
+narrow_submission (submissions.Read s c) h = rw (narrow_decimal s h.0, small c h.1.1) refl
+narrow_submission (submissions.Write s c t) h = rw (narrow_decimal s h.0, small c h.1.1, narrow_hex t) refl
+narrow_submission (submissions.Barrier s c t) h = rw (narrow_decimal s h.0, small c h.1.1, narrow_hex t) refl
+narrow_submission submissions.Flush h = refl
+narrow_submission (submissions.Discard s c) h = rw (narrow_decimal s h.0, small c h.1.1) refl
 
 narrow_halt : (halt : Halt) → HaltHasWidths halt → is_halt_allowed halt ≡ true → AreNarrow (halt_words halt)
 narrow_halt (halts.Overrun p r) h e = rw (small p h.0, small r h.1) refl
@@ -135,7 +135,7 @@ narrow_line lines.Ready h other = refl
 narrow_line lines.Closing h other = refl
 narrow_line lines.Closed h other = refl
 narrow_line (lines.Broken w) h other = rw (narrow_hex w) refl
-narrow_line (lines.Submit id job) h other = rw (narrow_decimal id h.widths.0, narrow_job job h.widths.1) refl
+narrow_line (lines.Submit id submission) h other = rw (narrow_decimal id h.widths.0, narrow_submission submission h.widths.1) refl
 narrow_line (lines.Refuse r) h other = rw (narrow_refusal r) refl
 narrow_line (lines.Effect id index) h other = rw (narrow_decimal id h.widths.0, small index h.widths.1) refl
 narrow_line (lines.EffectRead id index words) h other = absurd (true≢false other)

@@ -5,13 +5,13 @@ use Rattle.std.specs.List.{list_all}
 use Rattle.std.proofs.lemmas.Bool.Decides.{nat_tests}
 use Rattle.line_text.specs.Words.{is_space, words_in, joined}
 use Rattle.line_text.proofs.Solid.{is_solid, solid_again, solid_decimal, solid_sector}
-use Rattle.blk_base.specs.declared.config.Job.{Job}
+use Rattle.blk_base.specs.declared.config.Submission.{Submission}
 use Rattle.schedule_text.specs.declared.line.Line.{Line}
 use Rattle.schedule_text.specs.declared.line.Line.TheVariants as lines
-use Rattle.schedule_text.specs.Line.{words_of, text_of, job_words}
-use Rattle.schedule_text.specs.Range.{IsInRange, JobHasWidths}
+use Rattle.schedule_text.specs.Line.{words_of, text_of, submission_words}
+use Rattle.schedule_text.specs.Range.{IsInRange, SubmissionHasWidths}
 use Rattle.schedule_text.proofs.NarrowWords.{all_weaker, is_above, is_narrow, AreNarrow, above_of}
-use Rattle.schedule_text.proofs.Narrow.{narrow_job, narrow_line}
+use Rattle.schedule_text.proofs.Narrow.{narrow_submission, narrow_line}
 
 abbrev AreSolid : List (List ℕ) → Type 0
 AreSolid words = list_all is_solid words ≡ true
@@ -25,8 +25,8 @@ solid_narrow word narrow = all_weaker is_above (λ b. not (is_space b)) no_space
 solid_words : (words : List (List ℕ)) → AreNarrow words → AreSolid words
 solid_words words narrow = all_weaker is_narrow is_solid solid_narrow words narrow
 
-pub solid_job : (job : Job) → JobHasWidths job → AreSolid (job_words job)
-solid_job job h = solid_words (job_words job) (narrow_job job h)
+pub solid_submission : (job : Submission) → SubmissionHasWidths job → AreSolid (submission_words job)
+solid_submission job h = solid_words (submission_words job) (narrow_submission job h)
 
 solid_line : (line : Line) → IsInRange line → AreSolid (words_of line)
 solid_line (lines.EffectRead id index words) h = rw (solid_decimal id h.widths.0, solid_decimal index (omega (arith, h.widths.1)), solid_sector words h.widths.2) refl

@@ -6,8 +6,8 @@ use Rattle.blk_base.specs.declared.parts.End.{End}
 use Rattle.blk_base.specs.declared.parts.End.TheVariants as ends
 use Rattle.schedule_text.specs.declared.event.Event.{Event}
 use Rattle.schedule_text.specs.declared.event.Event.TheVariants as events
-use Rattle.schedule_text.specs.Line.{job_words}
-use Rattle.schedule_text.specs.Range.{JobHasWidths, IsWord}
+use Rattle.schedule_text.specs.Line.{submission_words}
+use Rattle.schedule_text.specs.Range.{SubmissionHasWidths, IsWord}
 
 abbrev pub end_word : End → List ℕ
 end_word ends.Front = codes "front"
@@ -15,7 +15,7 @@ end_word ends.Back = codes "back"
 
 -- the words of a schedule's line
 abbrev pub event_words : Event → List (List ℕ)
-event_words (events.Submit job) = codes "submit" ∷ job_words job
+event_words (events.Submit submission) = codes "submit" ∷ submission_words submission
 event_words (events.Front n) = codes "front" ∷ decimal n ∷ []
 event_words (events.Back n) = codes "back" ∷ decimal n ∷ []
 event_words (events.Job k n) = codes "job" ∷ decimal k ∷ decimal n ∷ []
@@ -35,7 +35,7 @@ event_text event = joined (event_words event)
 
 -- each number has as many bits as its type: every value of the type `Event` is so
 abbrev pub EventHasWidths : Event → Type 0
-EventHasWidths (events.Submit job) = JobHasWidths job
+EventHasWidths (events.Submit submission) = SubmissionHasWidths submission
 EventHasWidths (events.Front n) = IsWord n
 EventHasWidths (events.Back n) = IsWord n
 EventHasWidths (events.Job k n) = IsWord k × IsWord n
@@ -55,7 +55,7 @@ is_number n = nat_lt 0 n && nat_le n 1000000
 
 -- what the grammar asks besides
 abbrev pub is_event_allowed : Event → Bool
-is_event_allowed (events.Submit job) = true
+is_event_allowed (events.Submit submission) = true
 is_event_allowed (events.Front n) = is_number n
 is_event_allowed (events.Back n) = is_number n
 is_event_allowed (events.Job k n) = is_number k && is_number n

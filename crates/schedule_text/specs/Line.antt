@@ -11,8 +11,8 @@ use Rattle.blk_base.specs.declared.operation.Status.{Status}
 use Rattle.blk_base.specs.declared.operation.Status.TheVariants.{Okay, Error, Unsupported}
 use Rattle.blk_base.specs.declared.parts.Mode.{Mode}
 use Rattle.blk_base.specs.declared.parts.Mode.TheVariants.{ReadOnly, ReadWrite}
-use Rattle.blk_base.specs.declared.config.Job.{Job}
-use Rattle.blk_base.specs.declared.config.Job.TheVariants as jobs
+use Rattle.blk_base.specs.declared.config.Submission.{Submission}
+use Rattle.blk_base.specs.declared.config.Submission.TheVariants as submissions
 use Rattle.blk_base.specs.declared.moves.BackMover.{BackMover}
 use Rattle.blk_base.specs.declared.moves.BackMover.TheVariants as back_mover
 use Rattle.blk_base.specs.declared.moves.Mover.{Mover}
@@ -21,10 +21,10 @@ use Rattle.blk_base.specs.declared.moves.Move.{Move}
 use Rattle.blk_base.specs.declared.moves.Move.TheVariants as moves
 use Rattle.schedule_text.specs.declared.line.Detail.{Detail}
 use Rattle.schedule_text.specs.declared.line.Detail.TheVariants.{Lines, Moves}
-use Rattle.schedule_text.specs.declared.line.Refusal.{Refusal}
-use Rattle.schedule_text.specs.declared.line.Refusal.TheVariants as refusal
-use Rattle.schedule_text.specs.declared.line.Halt.{Halt}
-use Rattle.schedule_text.specs.declared.line.Halt.TheVariants as halts
+use Rattle.blk_base.specs.declared.refusal.Refusal.{Refusal}
+use Rattle.blk_base.specs.declared.refusal.Refusal.TheVariants as refusal
+use Rattle.blk_base.specs.declared.halt.Halt.{Halt}
+use Rattle.blk_base.specs.declared.halt.Halt.TheVariants as halts
 use Rattle.schedule_text.specs.declared.line.Line.{Line}
 use Rattle.schedule_text.specs.declared.line.Line.TheVariants as lines
 
@@ -59,12 +59,12 @@ refusal_word refusal.Full = codes "full"
 refusal_word refusal.Buffers = codes "buffers"
 
 -- what a request asks for: the first sector, the count, and the word that the first sector is filled with
-abbrev pub job_words : Job → List (List ℕ)
-job_words (jobs.Read sector count) = codes "read" ∷ decimal sector ∷ decimal count ∷ []
-job_words (jobs.Write sector count tag) = codes "write" ∷ decimal sector ∷ decimal count ∷ hex8 tag ∷ []
-job_words (jobs.Barrier sector count tag) = codes "barrier" ∷ decimal sector ∷ decimal count ∷ hex8 tag ∷ []
-job_words jobs.Flush = codes "flush" ∷ []
-job_words (jobs.Discard sector count) = codes "discard" ∷ decimal sector ∷ decimal count ∷ []
+abbrev pub submission_words : Submission → List (List ℕ)
+submission_words (submissions.Read sector count) = codes "read" ∷ decimal sector ∷ decimal count ∷ []
+submission_words (submissions.Write sector count tag) = codes "write" ∷ decimal sector ∷ decimal count ∷ hex8 tag ∷ []
+submission_words (submissions.Barrier sector count tag) = codes "barrier" ∷ decimal sector ∷ decimal count ∷ hex8 tag ∷ []
+submission_words submissions.Flush = codes "flush" ∷ []
+submission_words (submissions.Discard sector count) = codes "discard" ∷ decimal sector ∷ decimal count ∷ []
 
 abbrev pub halt_words : Halt → List (List ℕ)
 halt_words (halts.Overrun produced replied) = codes "overrun" ∷ decimal produced ∷ decimal replied ∷ []
@@ -122,7 +122,7 @@ words_of lines.Ready = codes "ready" ∷ []
 words_of lines.Closing = codes "closing" ∷ []
 words_of lines.Closed = codes "closed" ∷ []
 words_of (lines.Broken word) = codes "broken" ∷ hex8 word ∷ []
-words_of (lines.Submit id job) = codes "submit" ∷ decimal id ∷ job_words job
+words_of (lines.Submit id submission) = codes "submit" ∷ decimal id ∷ submission_words submission
 words_of (lines.Refuse refusal) = codes "refuse" ∷ refusal_word refusal ∷ []
 words_of (lines.Effect id index) = codes "effect" ∷ decimal id ∷ decimal index ∷ []
 words_of (lines.EffectRead id index words) = codes "effect" ∷ decimal id ∷ decimal index ∷ sector_words words

@@ -3,8 +3,8 @@ use Rattle.std.specs.Prelude.{◌≡◌, ℕ, ◌<◌, ◌≤◌, ◌^◌, Bool,
 use Rattle.std.specs.Int.{w32}
 use Rattle.line_text.specs.Sector.{IsSector}
 use Rattle.line_text.specs.Texts.{is_key_name, is_key_text, is_key_path}
-use Rattle.blk_base.specs.declared.config.Job.{Job}
-use Rattle.blk_base.specs.declared.config.Job.TheVariants as jobs
+use Rattle.blk_base.specs.declared.config.Submission.{Submission}
+use Rattle.blk_base.specs.declared.config.Submission.TheVariants as submissions
 use Rattle.blk_base.specs.declared.moves.BackMover.{BackMover}
 use Rattle.blk_base.specs.declared.moves.BackMover.TheVariants as back_mover
 use Rattle.blk_base.specs.declared.moves.Mover.{Mover}
@@ -12,8 +12,8 @@ use Rattle.blk_base.specs.declared.moves.Mover.TheVariants as mover
 use Rattle.blk_base.specs.declared.moves.Move.{Move}
 use Rattle.blk_base.specs.declared.moves.Move.TheVariants as moves
 use Rattle.blk_base.specs.Options.{Options}
-use Rattle.schedule_text.specs.declared.line.Halt.{Halt}
-use Rattle.schedule_text.specs.declared.line.Halt.TheVariants as halts
+use Rattle.blk_base.specs.declared.halt.Halt.{Halt}
+use Rattle.blk_base.specs.declared.halt.Halt.TheVariants as halts
 use Rattle.schedule_text.specs.declared.line.Line.{Line}
 use Rattle.schedule_text.specs.declared.line.Line.TheVariants as lines
 use Rattle.schedule_text.specs.Line.{text_of}
@@ -27,12 +27,12 @@ IsLong n = n < 2 ^ 64
 abbrev pub IsCount : ℕ → Type 0
 IsCount n = (0 < n) × IsWord n
 
-abbrev pub JobHasWidths : Job → Type 0
-JobHasWidths (jobs.Read sector count) = IsLong sector × IsCount count
-JobHasWidths (jobs.Write sector count tag) = IsLong sector × IsCount count × IsWord tag
-JobHasWidths (jobs.Barrier sector count tag) = IsLong sector × IsCount count × IsWord tag
-JobHasWidths jobs.Flush = Unit {0}
-JobHasWidths (jobs.Discard sector count) = IsLong sector × IsCount count
+abbrev pub SubmissionHasWidths : Submission → Type 0
+SubmissionHasWidths (submissions.Read sector count) = IsLong sector × IsCount count
+SubmissionHasWidths (submissions.Write sector count tag) = IsLong sector × IsCount count × IsWord tag
+SubmissionHasWidths (submissions.Barrier sector count tag) = IsLong sector × IsCount count × IsWord tag
+SubmissionHasWidths submissions.Flush = Unit {0}
+SubmissionHasWidths (submissions.Discard sector count) = IsLong sector × IsCount count
 
 abbrev pub HaltHasWidths : Halt → Type 0
 HaltHasWidths (halts.Overrun produced replied) = IsWord produced × IsWord replied
@@ -88,7 +88,7 @@ HasWidths lines.Ready = Unit {0}
 HasWidths lines.Closing = Unit {0}
 HasWidths lines.Closed = Unit {0}
 HasWidths (lines.Broken word) = IsWord word
-HasWidths (lines.Submit id job) = IsLong id × JobHasWidths job
+HasWidths (lines.Submit id submission) = IsLong id × SubmissionHasWidths submission
 HasWidths (lines.Refuse refusal) = Unit {0}
 HasWidths (lines.Effect id index) = IsLong id × IsWord index
 HasWidths (lines.EffectRead id index words) = IsLong id × IsWord index × IsSector words
@@ -163,7 +163,7 @@ is_allowed lines.Ready = true
 is_allowed lines.Closing = true
 is_allowed lines.Closed = true
 is_allowed (lines.Broken word) = true
-is_allowed (lines.Submit id job) = true
+is_allowed (lines.Submit id submission) = true
 is_allowed (lines.Refuse refusal) = true
 is_allowed (lines.Effect id index) = true
 is_allowed (lines.EffectRead id index words) = true

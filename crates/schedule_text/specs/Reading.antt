@@ -11,8 +11,8 @@ use Rattle.blk_base.specs.declared.operation.Status.{Status}
 use Rattle.blk_base.specs.declared.operation.Status.TheVariants.{Okay, Error, Unsupported}
 use Rattle.blk_base.specs.declared.parts.Mode.{Mode}
 use Rattle.blk_base.specs.declared.parts.Mode.TheVariants.{ReadOnly, ReadWrite}
-use Rattle.blk_base.specs.declared.config.Job.{Job}
-use Rattle.blk_base.specs.declared.config.Job.TheVariants as jobs
+use Rattle.blk_base.specs.declared.config.Submission.{Submission}
+use Rattle.blk_base.specs.declared.config.Submission.TheVariants as submissions
 use Rattle.blk_base.specs.declared.moves.BackMover.{BackMover}
 use Rattle.blk_base.specs.declared.moves.BackMover.TheVariants as back_mover
 use Rattle.blk_base.specs.declared.moves.Mover.{Mover}
@@ -22,10 +22,10 @@ use Rattle.blk_base.specs.declared.moves.Move.TheVariants as moves
 use Rattle.blk_base.specs.Options.{Options}
 use Rattle.schedule_text.specs.declared.line.Detail.{Detail}
 use Rattle.schedule_text.specs.declared.line.Detail.TheVariants.{Lines, Moves}
-use Rattle.schedule_text.specs.declared.line.Refusal.{Refusal}
-use Rattle.schedule_text.specs.declared.line.Refusal.TheVariants as refusal
-use Rattle.schedule_text.specs.declared.line.Halt.{Halt}
-use Rattle.schedule_text.specs.declared.line.Halt.TheVariants as halts
+use Rattle.blk_base.specs.declared.refusal.Refusal.{Refusal}
+use Rattle.blk_base.specs.declared.refusal.Refusal.TheVariants as refusal
+use Rattle.blk_base.specs.declared.halt.Halt.{Halt}
+use Rattle.blk_base.specs.declared.halt.Halt.TheVariants as halts
 use Rattle.schedule_text.specs.declared.line.Line.{Line}
 use Rattle.schedule_text.specs.declared.line.Line.TheVariants as lines
 
@@ -81,13 +81,13 @@ refusal_at word =
 abbrev pub count_of : List ℕ → ℕ
 count_of word = max (small_of word) 1
 
-abbrev pub job_at : List (List ℕ) → Job
+abbrev pub job_at : List (List ℕ) → Submission
 job_at ws =
-    if bytes_eq (word0 ws) (codes "flush") then jobs.Flush else
-    if bytes_eq (word0 ws) (codes "read") then jobs.Read (number_of (word1 ws)) (count_of (word2 ws)) else
-    if bytes_eq (word0 ws) (codes "write") then jobs.Write (number_of (word1 ws)) (count_of (word2 ws)) (hex_of (word3 ws)) else
-    if bytes_eq (word0 ws) (codes "barrier") then jobs.Barrier (number_of (word1 ws)) (count_of (word2 ws)) (hex_of (word3 ws)) else
-    jobs.Discard (number_of (word1 ws)) (count_of (word2 ws))
+    if bytes_eq (word0 ws) (codes "flush") then submissions.Flush else
+    if bytes_eq (word0 ws) (codes "read") then submissions.Read (number_of (word1 ws)) (count_of (word2 ws)) else
+    if bytes_eq (word0 ws) (codes "write") then submissions.Write (number_of (word1 ws)) (count_of (word2 ws)) (hex_of (word3 ws)) else
+    if bytes_eq (word0 ws) (codes "barrier") then submissions.Barrier (number_of (word1 ws)) (count_of (word2 ws)) (hex_of (word3 ws)) else
+    submissions.Discard (number_of (word1 ws)) (count_of (word2 ws))
 
 abbrev pub halt_at : List (List ℕ) → Halt
 halt_at ws =

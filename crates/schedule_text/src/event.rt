@@ -1,12 +1,11 @@
 // What a line of a schedule says.
-use crate::line::KeyName;
-use blk_base::{End, Job, Text};
+use blk_base::{End, KeyName, Submission, Text};
 
 /// One line of a schedule.
 #[derive(Clone, Copy, Debug, PartialEq, Eq)]
 pub enum Event {
     /// A request is handed to the front.
-    Submit(Job),
+    Submit(Submission),
     /// Up to that many moves of the front, 1 to 1000000.
     Front(u32),
     /// Up to that many moves of the back, 1 to 1000000.

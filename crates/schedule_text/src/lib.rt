@@ -20,7 +20,7 @@ mod writing;
 
 pub use event::{BadLine, Event};
 pub use exact::{read_event, read_line, read_line_into};
-pub use line::{Detail, Halt, KeyName, Line, Refusal};
+pub use line::{Detail, Line};
 pub use recorder::{RecordStop, Recorder, RoundsEnd, Shown, Tally};
 pub use recorders::{LineList, LineSink, LineTally};
 pub use schedule::write_event;

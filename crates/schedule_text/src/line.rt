@@ -1,8 +1,5 @@
 // What a line of a report says.
-use blk_base::{Config, Job, Move, SectorWords, ShortText, Status, Text};
-
-/// The name of a key, 1 to 32 bytes from `a` to `z`, `0` to `9` and `-`.
-pub type KeyName = ShortText<32>;
+use blk_base::{Config, Halt, KeyName, Move, Refusal, SectorWords, Status, Submission, Text};
 
 /// Whether a report has a line for each move.
 #[derive(Clone, Copy, Debug, PartialEq, Eq)]
@@ -11,49 +8,6 @@ pub enum Detail {
     Lines,
     /// The word `moves`: it has.
     Moves,
-}
-
-/// Why the front refuses a request, in the order in which it looks; but a front that closes says that
-/// before it says that it isn't connected.
-#[derive(Clone, Copy, Debug, PartialEq, Eq)]
-pub enum Refusal {
-    /// The last number was given.
-    Spent,
-    /// The front isn't connected, or is broken.
-    NotReady,
-    /// The front is closing or closed.
-    Closing,
-    /// The back doesn't offer this operation.
-    Unsupported,
-    /// A write to a disk that is read-only.
-    ReadOnly,
-    /// Sectors past the disk's end.
-    Range,
-    /// More segments than one request may have.
-    Long,
-    /// The ring is full of unfinished requests.
-    Full,
-    /// Too few free frames.
-    Buffers,
-}
-
-/// Why the back halted.
-#[derive(Clone, Copy, Debug, PartialEq, Eq)]
-pub enum Halt {
-    /// The front's producer is further ahead than the ring has entries.
-    Overrun { produced: u32, replied: u32 },
-    /// The front is gone: its state.
-    Gone(u32),
-    /// The front is gone after the back was asked to close: its state.
-    Unplugged(u32),
-    /// A key of the front's is missing or malformed.
-    BadKey(KeyName),
-    /// A state of the front's that may not come now.
-    BadOrder(u32),
-    /// The front's port can't be bound.
-    BadPort(u32),
-    /// A page of the ring can't be mapped: the reference and the status.
-    MapRefused { gref: u32, status: i32 },
 }
 
 /// One line of a report. Requests have the number of their submission, sectors of a request count
@@ -76,7 +30,7 @@ pub enum Line {
     /// A request was accepted.
     Submit {
         id: u64,
-        job: Job,
+        submission: Submission,
     },
     /// A request was refused.
     Refuse(Refusal),

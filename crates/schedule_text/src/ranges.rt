@@ -2,8 +2,8 @@
 ghost use Rattle.std.specs.Prelude.{◌≡◌};
 ghost use Rattle.schedule_text.specs.Range.{is_allowed, is_move_allowed, is_halt_allowed, is_mover_allowed, is_back_allowed};
 
-use crate::line::{Halt, Line};
-use blk_base::{BackMover, Move, Mover};
+use crate::line::Line;
+use blk_base::{BackMover, Halt, Move, Mover};
 use line_text::{is_key_name, is_key_path, is_key_text};
 
 /// Whether a line is one of the grammar: its texts, and the numbers that have bounds of their own.

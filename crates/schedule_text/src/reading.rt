@@ -3,12 +3,12 @@
 ghost use Rattle.std.specs.Prelude.{◌≡◌};
 ghost use Rattle.line_text.specs.Words.{first_of, later, words_in};
 ghost use Rattle.schedule_text.specs.Parts.{IsReadAs};
-ghost use Rattle.schedule_text.specs.Range.{HaltHasWidths, JobHasWidths, AreOptions, IsCount};
+ghost use Rattle.schedule_text.specs.Range.{HaltHasWidths, SubmissionHasWidths, AreOptions, IsCount};
 ghost use Rattle.schedule_text.specs.Reading.{line_at, word_line_at, request_at, other_at, effect_at, data_at, halt_at, job_at, count_of, options_at, status_at, detail_at, refusal_at};
 
-use crate::line::{Detail, Halt, Line, Refusal};
+use crate::line::{Detail, Line};
 use crate::reading_moves::movement;
-use blk_base::{Abi, Config, Job, SectorCount, Status};
+use blk_base::{Abi, Config, Halt, Refusal, SectorCount, Status, Submission};
 use line_text::{Words, is, sector, short_text};
 
 /// Reads the line that words say. Lines are large: it is made where it is to lie.
@@ -64,8 +64,8 @@ fn request_line(name: &[u8], words: &mut Words) -> Line
 {
     if is(name, "submit") {
         let id = words.number();
-        let job = job(words);
-        Line::Submit { id, job }
+        let submission = submission(words);
+        Line::Submit { id, submission }
     } else if is(name, "effect") {
         effect_line(words)
     } else if is(name, "flushed") {
@@ -235,26 +235,26 @@ fn count(words: &mut Words) -> SectorCount
 }
 
 /// What a request asks for.
-pub fn job(words: &mut Words) -> Job
+pub fn submission(words: &mut Words) -> Submission
     ensures says { result ≡ job_at words.old }
-    ensures widths { JobHasWidths result }
+    ensures widths { SubmissionHasWidths result }
 {
     let name = words.next();
     if is(name, "flush") {
-        return Job::Flush;
+        return Submission::Flush;
     }
     let sector = words.number();
     let count = count(words);
     if is(name, "read") {
-        Job::Read { sector, count }
+        Submission::Read { sector, count }
     } else if is(name, "write") {
         let tag = words.hex();
-        Job::Write { sector, count, tag }
+        Submission::Write { sector, count, tag }
     } else if is(name, "barrier") {
         let tag = words.hex();
-        Job::Barrier { sector, count, tag }
+        Submission::Barrier { sector, count, tag }
     } else {
-        Job::Discard { sector, count }
+        Submission::Discard { sector, count }
     }
 }
 
@@ -265,9 +265,9 @@ fn halt(words: &mut Words) -> Halt
 {
     let name = words.next();
     if is(name, "overrun") {
-        let produced = words.small();
-        let replied = words.small();
-        Halt::Overrun { produced, replied }
+        let prod = words.small();
+        let rsp_prod = words.small();
+        Halt::Overrun { prod, rsp_prod }
     } else if is(name, "gone") {
         Halt::Gone(words.small())
     } else if is(name, "unplugged") {

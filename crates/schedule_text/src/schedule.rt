@@ -5,8 +5,8 @@ ghost use Rattle.schedule_text.specs.Event.{event_text, EventHasWidths, is_event
 ghost use Rattle.schedule_text.specs.EventReading.{event_at, other_event_at, end_at};
 
 use crate::event::Event;
-use crate::reading::job;
-use crate::writing::{put_job, write_key, write_number, write_poke};
+use crate::reading::submission;
+use crate::writing::{put_submission, write_key, write_number, write_poke};
 use blk_base::End;
 use line_text::{
     LineText, Words, begin, is, is_key_name, is_key_text, put, put_number, short_text,
@@ -17,9 +17,9 @@ pub fn write_event(event: &Event, text: &mut LineText)
     ensures { text.new.bytes ≡ event_text event.now }
 {
     match event {
-        Event::Submit(job) => {
+        Event::Submit(submission) => {
             begin(text, "submit");
-            put_job(text, job);
+            put_submission(text, submission);
         }
         Event::Front(moves) => write_number(text, "front", u64::from(*moves)),
         Event::Back(moves) => write_number(text, "back", u64::from(*moves)),
@@ -66,7 +66,7 @@ pub fn event_of(bytes: &[u8]) -> Event
     let mut words = Words::new(bytes);
     let name = words.next();
     if is(name, "submit") {
-        Event::Submit(job(&mut words))
+        Event::Submit(submission(&mut words))
     } else if is(name, "front") {
         Event::Front(words.small())
     } else if is(name, "back") {

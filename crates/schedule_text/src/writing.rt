@@ -4,12 +4,14 @@ ghost use Rattle.arrayvec.specs.ArrayString.{array_string_len};
 ghost use Rattle.line_text.specs.Sector.{sector_words};
 ghost use Rattle.line_text.specs.Words.{spaced};
 ghost use Rattle.schedule_text.specs.Parts.{AddsWords, IsWritten};
-ghost use Rattle.schedule_text.specs.Line.{text_of, job_words, halt_words, status_word, refusal_word, detail_word};
+ghost use Rattle.schedule_text.specs.Line.{text_of, submission_words, halt_words, status_word, refusal_word, detail_word};
 
 use crate::accesses::{access_of, write_access};
-use crate::line::{Detail, Halt, KeyName, Line, Refusal};
+use crate::line::{Detail, Line};
 use crate::moves::put_move;
-use blk_base::{Abi, Config, Job, Move, SectorCount, SectorWords, Status, Text};
+use blk_base::{
+    Abi, Config, Halt, KeyName, Move, Refusal, SectorCount, SectorWords, Status, Submission, Text,
+};
 use line_text::{LineText, begin, put, put_hex, put_number, put_sector, put_signed};
 
 /// Writes the one spelling of a line, without its line feed, in place of what the text held.
@@ -23,7 +25,7 @@ pub fn write_line(line: &Line, text: &mut LineText)
         Line::Closing => begin(text, "closing"),
         Line::Closed => begin(text, "closed"),
         Line::Broken(word) => write_broken(text, *word),
-        Line::Submit { id, job } => write_submit(text, *id, job),
+        Line::Submit { id, submission } => write_submit(text, *id, submission),
         Line::Refuse(refusal) => write_refuse(text, *refusal),
         Line::Effect { id, index } => write_place(text, "effect", *id, *index),
         Line::EffectRead { id, index, words } => write_sector(text, "effect", *id, *index, words),
@@ -111,12 +113,12 @@ fn write_broken(text: &mut LineText, word: u32)
     put_hex(text, word);
 }
 
-fn write_submit(text: &mut LineText, id: u64, job: &Job)
-    ensures { IsWritten (Line.Submit id job.now) text.new }
+fn write_submit(text: &mut LineText, id: u64, submission: &Submission)
+    ensures { IsWritten (Line.Submit id submission.now) text.new }
 {
     begin(text, "submit");
     put_number(text, id);
-    put_job(text, job);
+    put_submission(text, submission);
 }
 
 fn write_refuse(text: &mut LineText, refusal: Refusal)
@@ -220,22 +222,22 @@ fn write_status(text: &mut LineText, name: &str, id: u64, status: Status)
 }
 
 /// Adds what a request asks for.
-pub fn put_job(text: &mut LineText, job: &Job)
+pub fn put_submission(text: &mut LineText, submission: &Submission)
     requires { array_string_len text.old ≤ 200 }
-    ensures { AddsWords (job_words job.now) 500 text.old text.new }
+    ensures { AddsWords (submission_words submission.now) 500 text.old text.new }
 {
-    match job {
-        Job::Read { sector, count } => put_sectors(text, "read", *sector, *count),
-        Job::Write { sector, count, tag } => {
+    match submission {
+        Submission::Read { sector, count } => put_sectors(text, "read", *sector, *count),
+        Submission::Write { sector, count, tag } => {
             put_sectors(text, "write", *sector, *count);
             put_hex(text, *tag);
         }
-        Job::Barrier { sector, count, tag } => {
+        Submission::Barrier { sector, count, tag } => {
             put_sectors(text, "barrier", *sector, *count);
             put_hex(text, *tag);
         }
-        Job::Flush => put(text, "flush"),
-        Job::Discard { sector, count } => put_sectors(text, "discard", *sector, *count),
+        Submission::Flush => put(text, "flush"),
+        Submission::Discard { sector, count } => put_sectors(text, "discard", *sector, *count),
     }
 }
 
@@ -255,9 +257,9 @@ fn put_halt(text: &mut LineText, halt: &Halt)
     ensures { AddsWords (halt_words halt.now) 500 text.old text.new }
 {
     match halt {
-        Halt::Overrun { produced, replied } => {
-            put_small(text, "overrun", *produced);
-            put_number(text, u64::from(*replied));
+        Halt::Overrun { prod, rsp_prod } => {
+            put_small(text, "overrun", *prod);
+            put_number(text, u64::from(*rsp_prod));
         }
         Halt::Gone(state) => put_small(text, "gone", *state),
         Halt::Unplugged(state) => put_small(text, "unplugged", *state),

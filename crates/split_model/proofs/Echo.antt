@@ -5,12 +5,12 @@ use Rattle.std.specs.List.{AllByRecursion}
 use Rattle.std.proofs.lemmas.List.{append-nil}
 use Rattle.std.proofs.Math.Nat.{pow-le-pow_right}
 use Rattle.std.proofs.lemmas.List.Elements.{filter-append}
-use Rattle.blk_base.specs.declared.config.Job.{Job}
+use Rattle.blk_base.specs.declared.config.Submission.{Submission}
 use Rattle.schedule_text.specs.declared.line.Detail.{Detail}
 use Rattle.schedule_text.specs.declared.line.Detail.TheVariants.{Lines, Moves}
 use Rattle.schedule_text.specs.declared.line.Line.{Line}
 use Rattle.schedule_text.specs.declared.line.Line.TheVariants as lines
-use Rattle.blk_front.specs.declared.told.Refusal.{Refusal}
+use Rattle.blk_base.specs.declared.refusal.Refusal.{Refusal}
 use Rattle.plain_disk.specs.Echo.{is_echo, AnswersSubmit, AreRingWords}
 use Rattle.xen_pages.specs.Pages.{word_of}
 use Rattle.split_model.specs.World.{World, may_suspend}
@@ -80,7 +80,7 @@ are_moves-append [] b p q = q
 are_moves-append (h ∷ a) b p q = (p.0, are_moves-append a b p.1 q)
 
 -- the line of a submission answers it
-pub submit_answers : (job : Job) (result : Result ℕ Refusal) → (line : Line) × (echo_of (submit_line job result ∷ []) ≡ line ∷ []) × AnswersSubmit job line
+pub submit_answers : (job : Submission) (result : Result ℕ Refusal) → (line : Line) × (echo_of (submit_line job result ∷ []) ≡ line ∷ []) × AnswersSubmit job line
 submit_answers job (Ok number) = (lines.Submit number job, refl, refl)
 submit_answers job (Err r) = (submit_line job (Err r), refl, tt)
 

@@ -8,7 +8,7 @@ use Rattle.std.proofs.lemmas.List.Quantifiers.{position-Some}
 use Rattle.std.proofs.lemmas.List.Sums.{sum_by-cons, sum_by-remove, sum_by_push, count_by-le-length}
 use Rattle.std.proofs.lemmas.Option.{none-some, same_Some, slice_get_within, get_or_from_slice_get, slice_get-get_or}
 use Rattle.blk_base.specs.Distance.{distance_of}
-use Rattle.blk_base.specs.declared.config.Job.{Job}
+use Rattle.blk_base.specs.declared.config.Submission.{Submission}
 use Rattle.blk_base.specs.declared.operation.Status.{Status}
 use Rattle.blk_base.specs.declared.ask.FrontAnswer.{FrontAnswer}
 use Rattle.blk_base.specs.declared.ask.FrontAnswer.TheVariants as answer
@@ -25,8 +25,8 @@ use Rattle.blk_front.specs.declared.request.Transfer.TheVariants as transfer
 use Rattle.blk_front.specs.declared.request.Wish.{Wish}
 use Rattle.blk_front.specs.declared.state.FrontState.{FrontState}
 use Rattle.blk_front.specs.declared.state.FrontState.TheVariants as state
-use Rattle.blk_front.specs.declared.told.Refusal.{Refusal}
-use Rattle.blk_front.specs.declared.told.Refusal.TheVariants as refusal
+use Rattle.blk_base.specs.declared.refusal.Refusal.{Refusal}
+use Rattle.blk_base.specs.declared.refusal.Refusal.TheVariants as refusal
 use Rattle.blk_front.specs.declared.told.Told.TheVariants as told
 use Rattle.blk_front.specs.Pool.{taking, with_taken, with_free, with_all_free}
 use Rattle.blk_front.specs.Request.{is_write, named_of, has_data, words_in, frames_for, pages_for, is_indirect, naming_words}
@@ -448,7 +448,7 @@ accepted_modest v wish (Some frames) took room m =
 
 wish_modest : (v : View) (wish : Option Wish) → IsModest v → IsModest (submit_one v wish).1
 wish_modest v None m = m
-wish_modest v (Some wish) m = by_tests (is_write wish.transfer && v.read_only) (nat_lt v.sectors (wish.sector + named_of wish.transfer wish.count)) (nat_lt (most_segments v.offers wish.transfer) (frames_for wish.count)) (nat_le (entries_of v.shape.order) (unfinished v)) refl
+wish_modest v (Some wish) m = by_tests (is_write wish.transfer && v.offers.read_only) (nat_lt v.offers.sectors (wish.sector + named_of wish.transfer wish.count)) (nat_lt (most_segments v.offers wish.transfer) (frames_for wish.count)) (nat_le (entries_of v.shape.order) (unfinished v)) refl
   where
     frames : Option (List ℕ × List Bool)
     frames = taking (frames_taken wish.count) v.pool []
@@ -465,7 +465,7 @@ wish_modest v (Some wish) m = by_tests (is_write wish.transfer && v.read_only) (
         let room : unfinished v < 512 = omega arith in
         accepted_modest v wish frames refl room m
 
-pub submit_modest : (v : View) (job : Job) → IsModest v → IsModest (submit_of v job).1
+pub submit_modest : (v : View) (job : Submission) → IsModest v → IsModest (submit_of v job).1
 submit_modest v job m =
     let unless_unready = if not (is_ready v.stage) then (Err refusal.NotReady, v) else submit_one v (wish_of v.offers job) in
     either_submit (v.last == 4294967295) (Err refusal.Spent, v) (if v.closing then (Err refusal.Closing, v) else unless_unready) m

@@ -17,8 +17,8 @@ use Rattle.blk_back.specs.declared.stage.Reply.{Reply}
 use Rattle.blk_back.specs.declared.stage.BackStage.{BackStage}
 use Rattle.blk_back.specs.declared.stage.BackStage.TheVariants as stage
 use Rattle.blk_back.specs.View.{View}
-use Rattle.blk_back.specs.declared.told.Halt.{Halt}
-use Rattle.blk_back.specs.declared.told.Halt.TheVariants as halt
+use Rattle.blk_base.specs.declared.halt.Halt.{Halt}
+use Rattle.blk_base.specs.declared.halt.Halt.TheVariants as halt
 use Rattle.blk_back.specs.Ask.{next_reply, reply_of}
 use Rattle.blk_back.specs.Step.{at, unmapping_next, abort, unbound, bound, other_pages, may_attach, attached, halts, overrun, looked, loop_step, fetched, fetch_step, replied, step_at, step_of, job_step}
 use Rattle.split_model.proofs.States.{halts_cases}

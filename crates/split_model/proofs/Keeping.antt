@@ -1,4 +1,4 @@
--- What stays, whatever happens: the sectors of the front and of the disk; and how many mappings one happening makes.
+-- What stays, whatever happens: what is attached; and how many mappings one happening makes.
 use Rattle.std.proofs.Common.{◌≡◌, ℕ, List, refl, ap}
 use Rattle.blk_base.specs.declared.ask.BackAsk.{BackAsk}
 use Rattle.blk_base.specs.declared.ask.BackAsk.TheVariants as back_ask

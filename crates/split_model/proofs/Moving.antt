@@ -3,7 +3,7 @@ use Rattle.split_model.specs.Keys.{front_path}
 use Rattle.std.proofs.Common.{◌≡◌, true, ℕ, ◌+◌, ◌<◌, ◌≤◌, ◌^◌, length, List, [], ◌∷◌, ◌++◌, Option, Some, None, Result, Ok, refl, ap, sym, ◌∙◌, subst, arith}
 use Rattle.std.proofs.lemmas.List.{append-nil}
 use Rattle.std.proofs.lemmas.Option.{none-some, same_Some}
-use Rattle.blk_base.specs.declared.config.Job.{Job}
+use Rattle.blk_base.specs.declared.config.Submission.{Submission}
 use Rattle.blk_base.specs.declared.ask.BackAnswer.{BackAnswer}
 use Rattle.blk_base.specs.declared.ask.BackAsk.{BackAsk}
 use Rattle.blk_base.specs.declared.ask.BackAsk.TheVariants as back_ask
@@ -22,7 +22,7 @@ use Rattle.hypervisor.specs.Hypervisor.{Hypervisor}
 use Rattle.hypervisor.specs.Act.{BackAct, Outcome, Took, back_act, back_seen, back_under, outcome_told, with_pages, key_set}
 use Rattle.hypervisor.specs.Disk.{DiskDoes}
 use Rattle.hypervisor.specs.May.{BackMay, BackTakesMemory}
-use Rattle.blk_front.specs.declared.told.Refusal.{Refusal}
+use Rattle.blk_base.specs.declared.refusal.Refusal.{Refusal}
 use Rattle.blk_front.specs.Submit.{submit_of}
 use Rattle.blk_front.specs.View as front
 use Rattle.blk_back.specs.declared.told.BackTold.{BackTold}
@@ -37,18 +37,18 @@ use Rattle.split_model.specs.World.{World, may_suspend, suspended}
 use Rattle.split_model.specs.Shown.{back_lines}
 use Rattle.split_model.specs.Happening.{Happening, JobMoves, Submits, Pokes, is_guest_word, submit_line, happens, lines_at, DiskGoes, job_after, job_shows, job_turn, OverwritesKey, is_guest_key, Suspends}
 use Rattle.hypervisor.specs.Act.{IsGiven}
+use Rattle.segment_list.specs.declared.verdict.DiskInfo.{DiskInfo}
 use Rattle.split_model.specs.Leads.{moment, Goes, Is, IsJobMove}
 use Rattle.split_model.specs.Safe.{IsSafe}
 use Rattle.split_model.proofs.Keeping.{no_call}
 use Rattle.split_model.proofs.Running.{goes_one}
 use Rattle.split_model.proofs.Safe.{job_may}
 use Rattle.split_model.proofs.SafeActs.{made_back}
-use Rattle.split_model.proofs.SafeFront.{submit_kept}
-use Rattle.split_model.proofs.Suspending.{front_kept}
+use Rattle.split_model.proofs.Suspending.{suspended_info}
 use Rattle.split_model.proofs.SafeAnswers.{IsBacks, backs_of, IsJobs, jobs_of, job_answered}
 
 -- one thing happened to the machine, and its lines were given to the recorder
-goes_here : (kind so_far : List Happening → Type 0) (n : ℕ) (h : Happening) (w v : World) (a b : DiskSeen) (r s : RecorderSeen) (result : Result (Unit {0}) RecordStop) → kind (h ∷ []) → so_far (h ∷ []) → v ≡ happens w h → v.under.grants.made ≤ w.under.grants.made + n → v.front.sectors ≡ w.front.sectors → DiskGoes w h a b → Adds (lines_at w h) result r s → Goes kind so_far n result (moment w a r) (moment v b s)
+goes_here : (kind so_far : List Happening → Type 0) (n : ℕ) (h : Happening) (w v : World) (a b : DiskSeen) (r s : RecorderSeen) (result : Result (Unit {0}) RecordStop) → kind (h ∷ []) → so_far (h ∷ []) → v ≡ happens w h → v.under.grants.made ≤ w.under.grants.made + n → v.back.jobs.info.sectors ≡ w.back.jobs.info.sectors → DiskGoes w h a b → Adds (lines_at w h) result r s → Goes kind so_far n result (moment w a r) (moment v b s)
 goes_here kind so_far n h w v a b r s result is far world made sectors disk told =
     goes_one kind so_far n h result (moment w a r) (moment v b s) is far world made sectors disk told
 
@@ -109,7 +109,7 @@ pub job_goes : (w : World) (k : ℕ) (seen : BackAnswer × Shown) (b : back.View
 job_goes w k seen b u more c c' r s result given e under does stepped said shown =
     let o = outcome_told seen.0 in
     goes_here (IsJobMove k) (IsJobMove k) 1 (JobMoves k o) w (record { front = w.front; back = b; under = u }) c c' r s result (o, refl, given) (o, refl, given)
-    (job_moved w k seen b u e under stepped) (back_made w (JobOf k) (back_step.job_ask_of w.back k) o u under) refl does
+    (job_moved w k seen b u e under stepped) (back_made w (JobOf k) (back_step.job_ask_of w.back k) o u under) (ap (λ (x : back.View). x.jobs.info.sectors) stepped) does
     (subst (λ (l : List Line). Adds l result r s) (job_shows_did w k (job_turn w k o) seen more (back_did_at (job_turn w k o) seen e) said) shown)
 
 -- a move that makes no call of the disk and maps nothing
@@ -173,24 +173,21 @@ job_needs_none w k ask same takes = job_needs (back_step.job_ask_of w.back k) (j
 one_left : (w v : World) → w ≡ v → v.under.grants.made + 1 < 2 ^ 64 → w.under.grants.made + 1 < 2 ^ 64
 one_left w v is left = subst (λ (x : World). x.under.grants.made + 1 < 2 ^ 64) (sym is) left
 
-pub job_asked_may : (w v : World) (k : ℕ) (ask : BackAsk) (attached : Option ℕ) → w ≡ v → IsSafe w → ask ≡ back_step.job_ask_of w.back k → Names (hands_of w.back) ask → StaysInPageAndDisk w.back.jobs.info.sectors ask → length (hands_of w.back) ≤ 529 → attached ≡ Some v.front.sectors → v.under.grants.made + 1 < 2 ^ 64 → BackMay w.under attached ask
+pub job_asked_may : (w v : World) (k : ℕ) (ask : BackAsk) (attached : Option ℕ) → w ≡ v → IsSafe w → ask ≡ back_step.job_ask_of w.back k → Names (hands_of w.back) ask → StaysInPageAndDisk w.back.jobs.info.sectors ask → length (hands_of w.back) ≤ 529 → attached ≡ Some v.back.jobs.info.sectors → v.under.grants.made + 1 < 2 ^ 64 → BackMay w.under attached ask
 job_asked_may w v k ask attached is safe same names within few disk left =
-    let known : attached ≡ Some w.back.jobs.info.sectors = disk ∙ (sym (ap (λ (x : World). Some x.front.sectors) is) ∙ sym (ap (λ (n : ℕ). Some n) safe.sized)) in
+    let known : attached ≡ Some w.back.jobs.info.sectors = disk ∙ sym (ap (λ (x : World). let b : back.View = x.back in Some b.jobs.info.sectors) is) in
     subst (BackMay w.under attached) (sym same)
     (job_may w.under attached w.back.jobs.info.sectors (hands_of w.back) w.back k safe.held (subst (Names (hands_of w.back)) same names) (subst (StaysInPageAndDisk w.back.jobs.info.sectors) same within) known (one_left w v is left) few)
 
 -- a submission
-pub submitted : (w : World) (job : Job) (f : front.View) → f ≡ (submit_of w.front job).1 → record { front = f; back = w.back; under = w.under } ≡ happens w (Submits job)
+pub submitted : (w : World) (job : Submission) (f : front.View) → f ≡ (submit_of w.front job).1 → record { front = f; back = w.back; under = w.under } ≡ happens w (Submits job)
 submitted w job f stepped = ap (λ (v : front.View). record { front = v; back = w.back; under = w.under }) stepped
 
-pub submit_sectors : (v f : front.View) (job : Job) → f ≡ (submit_of v job).1 → f.sectors ≡ v.sectors
-submit_sectors v f job stepped = ap (λ (x : front.View). x.sectors) stepped ∙ (submit_kept v job).sectors
-
-pub submit_goes : (w : World) (job : Job) (f : front.View) (answer : Result ℕ Refusal) (line : Line) (c : DiskSeen) (r s : RecorderSeen) (result : Result (Unit {0}) RecordStop) → f ≡ (submit_of w.front job).1 → answer ≡ (submit_of w.front job).0 → line ≡ submit_line job answer → Adds (line ∷ []) result r s → Goes (Is (Submits job ∷ [])) (Is (Submits job ∷ [])) 0 result (moment w c r) (moment (record { front = f; back = w.back; under = w.under }) c s)
+pub submit_goes : (w : World) (job : Submission) (f : front.View) (answer : Result ℕ Refusal) (line : Line) (c : DiskSeen) (r s : RecorderSeen) (result : Result (Unit {0}) RecordStop) → f ≡ (submit_of w.front job).1 → answer ≡ (submit_of w.front job).0 → line ≡ submit_line job answer → Adds (line ∷ []) result r s → Goes (Is (Submits job ∷ [])) (Is (Submits job ∷ [])) 0 result (moment w c r) (moment (record { front = f; back = w.back; under = w.under }) c s)
 submit_goes w job f answer line c r s result stepped answered said shown =
     let same : line ≡ submit_line job (submit_of w.front job).0 = said ∙ ap (submit_line job) answered in
     goes_here (Is (Submits job ∷ [])) (Is (Submits job ∷ [])) 0 (Submits job) w (record { front = f; back = w.back; under = w.under }) c c r s result refl refl
-    (submitted w job f stepped) (omega arith) (submit_sectors w.front f job stepped) refl
+    (submitted w job f stepped) (omega arith) refl refl
     (subst (λ (l : Line). Adds (l ∷ []) result r s) same shown)
 
 -- a word of the guest's memory was overwritten, and that was said
@@ -218,4 +215,4 @@ pub suspended_goes : (w v : World) (c : DiskSeen) (r s : RecorderSeen) (result :
     → Goes (Is (Suspends ∷ [])) (Is (Suspends ∷ [])) 0 result (moment w c r) (moment v c s)
 suspended_goes w v c r s result may is shown =
     goes_here (Is (Suspends ∷ [])) (Is (Suspends ∷ [])) 0 Suspends w v c c r s result refl refl
-    (is ∙ rw may refl) (rw is (omega arith)) (ap (λ (x : World). x.front.sectors) is ∙ (front_kept w.front).sectors) refl (rw may shown)
+    (is ∙ rw may refl) (rw is (omega arith)) (ap (λ (x : World). let b : back.View = x.back in b.jobs.info.sectors) is ∙ ap (λ (i : DiskInfo). i.sectors) (suspended_info w)) refl (rw may shown)

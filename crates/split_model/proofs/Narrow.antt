@@ -1,11 +1,11 @@
 -- The front's ring never gets more pages than it wished.
 use Rattle.std.proofs.Common.{◌≡◌, ℕ, ◌+◌, ◌≤◌, ◌&&◌, Bool, true, false, not, if◌then◌else◌, List, [], ◌∷◌, refl, ap, arith}
 use Rattle.std.specs.Prelude.{Option, Some, None, Result, Err, nat_lt, nat_le, ◌==◌}
-use Rattle.blk_base.specs.declared.config.Job.{Job}
+use Rattle.blk_base.specs.declared.config.Submission.{Submission}
 use Rattle.ring_words.specs.Shape.{Shape, entries_of}
 use Rattle.hypervisor.specs.Act.{FrontAct, BackAct}
-use Rattle.blk_front.specs.declared.told.Refusal.{Refusal}
-use Rattle.blk_front.specs.declared.told.Refusal.TheVariants as refusal
+use Rattle.blk_base.specs.declared.refusal.Refusal.{Refusal}
+use Rattle.blk_base.specs.declared.refusal.Refusal.TheVariants as refusal
 use Rattle.blk_front.specs.declared.request.Wish.{Wish}
 use Rattle.blk_front.specs.Pool.{taking}
 use Rattle.blk_front.specs.Request.{is_write, named_of, frames_for}
@@ -32,13 +32,13 @@ wish_shape v (Some wish) =
     let frames = taking (frames_taken wish.count) v.pool [] in
     let unless_full = if nat_le (entries_of v.shape.order) (unfinished v) then (Err refusal.Full, v) else submit_with v wish frames in
     let unless_long = if nat_lt (most_segments v.offers wish.transfer) (frames_for wish.count) then (Err refusal.Long, v) else unless_full in
-    either (is_write wish.transfer && v.read_only) (Err refusal.ReadOnly, v) (if nat_lt v.sectors (wish.sector + named_of wish.transfer wish.count) then (Err refusal.Range, v) else unless_long) v.shape refl
-    (either (nat_lt v.sectors (wish.sector + named_of wish.transfer wish.count)) (Err refusal.Range, v) unless_long v.shape refl
+    either (is_write wish.transfer && v.offers.read_only) (Err refusal.ReadOnly, v) (if nat_lt v.offers.sectors (wish.sector + named_of wish.transfer wish.count) then (Err refusal.Range, v) else unless_long) v.shape refl
+    (either (nat_lt v.offers.sectors (wish.sector + named_of wish.transfer wish.count)) (Err refusal.Range, v) unless_long v.shape refl
     (either (nat_lt (most_segments v.offers wish.transfer) (frames_for wish.count)) (Err refusal.Long, v) unless_full v.shape refl
     (either (nat_le (entries_of v.shape.order) (unfinished v)) (Err refusal.Full, v) (submit_with v wish frames) v.shape refl (with_frames v wish frames))))
 
 -- a submission leaves the shape
-pub submit_shape : (v : View) (job : Job) → (submit_of v job).1.shape ≡ v.shape
+pub submit_shape : (v : View) (job : Submission) → (submit_of v job).1.shape ≡ v.shape
 submit_shape v job =
     let unless_unready = if not (is_ready v.stage) then (Err refusal.NotReady, v) else submit_one v (wish_of v.offers job) in
     either (v.last == 4294967295) (Err refusal.Spent, v) (if v.closing then (Err refusal.Closing, v) else unless_unready) v.shape refl

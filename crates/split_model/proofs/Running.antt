@@ -67,7 +67,7 @@ ends_as one one_far other other_far (Ok done) a b into far p = leads_as one othe
 ends_as one one_far other other_far (Err stop) a b into far p = stops_as one_far other_far stop a b far p
 
 -- one thing happened, of these kinds
-pub goes_one : (kind so_far : List Happening → Type 0) (n : ℕ) (h : Happening) (result : Result (Unit {0}) RecordStop) (a b : Moment) → kind (h ∷ []) → so_far (h ∷ []) → b.world ≡ happens a.world h → b.world.under.grants.made ≤ a.world.under.grants.made + n → b.world.front.sectors ≡ a.world.front.sectors → DiskGoes a.world h a.disk b.disk → Adds (lines_at a.world h) result a.recorder b.recorder → Goes kind so_far n result a b
+pub goes_one : (kind so_far : List Happening → Type 0) (n : ℕ) (h : Happening) (result : Result (Unit {0}) RecordStop) (a b : Moment) → kind (h ∷ []) → so_far (h ∷ []) → b.world ≡ happens a.world h → b.world.under.grants.made ≤ a.world.under.grants.made + n → b.world.back.jobs.info.sectors ≡ a.world.back.jobs.info.sectors → DiskGoes a.world h a.disk b.disk → Adds (lines_at a.world h) result a.recorder b.recorder → Goes kind so_far n result a b
 goes_one kind so_far n h result a b is far world made sectors disk told = record {
   ends = ends_as (λ hs. hs ≡ h ∷ []) (λ hs. hs ≡ h ∷ []) kind so_far result a b (λ xs e. subst kind (sym e) is) (λ xs e. subst so_far (sym e) far) (ends_one h result a b world disk told);
   keeps = record { made = made; sectors = sectors; attachment = disk_attachment a.world h a.disk b.disk disk };

@@ -4,7 +4,7 @@ use Rattle.std.specs.Prelude.{Option, Some, None}
 use Rattle.std.proofs.lemmas.Option.{none-some}
 use Rattle.std.proofs.lemmas.List.Elements.{All-nil, All-contains}
 use Rattle.blk_base.specs.Options.{Options}
-use Rattle.blk_base.specs.declared.config.Job.{Job}
+use Rattle.blk_base.specs.declared.config.Submission.{Submission}
 use Rattle.blk_base.specs.declared.parts.Mapping.{Mapping}
 use Rattle.blk_base.specs.declared.ask.FrontAsk.{FrontAsk}
 use Rattle.blk_base.specs.declared.ask.FrontAsk.TheVariants as front_ask
@@ -27,7 +27,7 @@ use Rattle.blk_front.specs.Suspend.{suspended as front_suspended}
 use Rattle.back_jobs.specs.Hands.{Names}
 use Rattle.back_jobs.specs.Sound.{StaysInPageAndDisk}
 use Rattle.blk_back.specs.declared.stage.BackStage.{BackStage}
-use Rattle.blk_back.specs.declared.told.Halt.{Halt}
+use Rattle.blk_base.specs.declared.halt.Halt.{Halt}
 use Rattle.blk_back.specs.View as back
 use Rattle.blk_back.specs.Ask as back_ends
 use Rattle.ring_words.specs.Shape.{Shape}
@@ -59,7 +59,7 @@ none_live made = record {
 }
 
 pub safe_start : (o : Options) → IsSafe (start_of o)
-safe_start o = record { ported = (omega arith, refl); held = none_live 0; sized = refl; front_told = refl; back_told = refl }
+safe_start o = record { ported = (omega arith, refl); held = none_live 0; front_told = refl; back_told = refl }
 
 -- where no port is there that fits any stage before the port, and so does what is like it
 ported_as : (s : FrontStage) (c c' : ChannelState) → (HasNoPort c → HasNoPort c') → IsPorted s c → IsPorted s c'
@@ -102,7 +102,6 @@ safe_front w a safe e =
     record {
       ported = fits.0;
       held = rw (made_front w.under (front_ends.ask_of w.front) a e) safe.held;
-      sized = safe.sized ∙ sym fits.1;
       front_told = refl;
       back_told = safe.back_told;
     }
@@ -114,7 +113,6 @@ safe_back w o a safe e =
     record {
       ported = ported_as w.front.stage w.under.channels a.under.channels (no_port w.under a (ports_back w.under back_mover.Back (back_ends.ask_of w.back) o a e)) safe.ported;
       held = held_after w.under back_mover.Back (back_ends.ask_of w.back) o a (hands_of w.back) (hands_of (step_of w.back a.answer)) safe.held e (hands_after w.back a.answer answered);
-      sized = ap (λ (i : DiskInfo). i.sectors) (step_info w.back a.answer) ∙ safe.sized;
       front_told = safe.front_told;
       back_told = refl;
     }
@@ -126,7 +124,6 @@ safe_job w k o a safe e =
     record {
       ported = ported_as w.front.stage w.under.channels a.under.channels (no_port w.under a (ports_back w.under (back_mover.Job k) (job_ask_of w.back k) o a e)) safe.ported;
       held = held_after w.under (back_mover.Job k) (job_ask_of w.back k) o a (hands_of w.back) (hands_of (job_step w.back k a.answer)) safe.held e (job_hands_after w.back k a.answer answered);
-      sized = safe.sized;
       front_told = safe.front_told;
       back_told = refl;
     }
@@ -138,7 +135,6 @@ safe_enter w s safe =
     record {
       ported = kept.ported w.under.channels safe.ported;
       held = safe.held;
-      sized = safe.sized ∙ sym kept.sectors;
       front_told = kept.told ∙ safe.front_told;
       back_told = safe.back_told;
     }
@@ -148,7 +144,6 @@ safe_back_as : (w : World) (b : back.View) → IsSafe w → hands_of b ≡ hands
 safe_back_as w b safe hands info told = record {
   ported = safe.ported;
   held = rw hands safe.held;
-  sized = ap (λ (i : DiskInfo). i.sectors) info ∙ safe.sized;
   front_told = safe.front_told;
   back_told = told ∙ safe.back_told;
 }
@@ -169,13 +164,12 @@ safe_attach w shape grefs port safe =
     (safe_back_as w w.back safe refl refl refl)
 
 -- a submission
-pub safe_submit : (w : World) (job : Job) → IsSafe w → IsSafe (happens w (Submits job))
+pub safe_submit : (w : World) (job : Submission) → IsSafe w → IsSafe (happens w (Submits job))
 safe_submit w job safe =
     let kept = submit_kept w.front job in
     record {
       ported = rw kept.stage safe.ported;
       held = safe.held;
-      sized = safe.sized ∙ sym kept.sectors;
       front_told = kept.told ∙ safe.front_told;
       back_told = safe.back_told;
     }
@@ -187,7 +181,6 @@ safe_outside w v left safe =
     record {
       ported = ported_as v.front.stage w.under.channels v.under.channels (λ none. (subst (λ (n : ℕ). n < 4294967295) (sym kept.made) none.0, kept.ports ∙ none.1)) (subst (λ (f : front.View). IsPorted f.stage w.under.channels) (sym left.front) safe.ported);
       held = rw (left.grants, left.back) safe.held;
-      sized = ap (λ (b : back.View). b.jobs.info.sectors) left.back ∙ (safe.sized ∙ sym (ap (λ (f : front.View). f.sectors) left.front));
       front_told = ap (λ (f : front.View). f.told) left.front ∙ safe.front_told;
       back_told = ap (λ (b : back.View). b.told) left.back ∙ safe.back_told;
     }
@@ -197,7 +190,6 @@ safe_suspended : (w : World) → may_suspend w ≡ true → IsSafe w → IsSafe 
 safe_suspended w may safe = record {
   ported = ported_none (let f : front.View = front_suspended w.front in f.stage) (reset w.under.channels) (let left = ports_left_then w may in omega arith, refl);
   held = rw (suspended_hands w) (none_live w.under.grants.made);
-  sized = ap (λ (i : DiskInfo). i.sectors) (suspended_info w) ∙ (safe.sized ∙ sym (front_kept w.front).sectors);
   front_told = (front_kept w.front).told ∙ safe.front_told;
   back_told = suspended_told w;
 }

@@ -2,27 +2,26 @@
 use Rattle.std.proofs.Common.{ℕ, ◌*◌, ◌^◌, Bool, true, false, List, [], ◌∷◌, ◌++◌}
 use Rattle.std.specs.Prelude.{Option, Some, None, Result, Ok, Err, if◌then◌else◌}
 use Rattle.std.specs.List.{AllByRecursion}
-use Rattle.blk_base.specs.declared.config.Job.{Job}
+use Rattle.blk_base.specs.declared.config.Submission.{Submission}
 use Rattle.blk_base.specs.declared.ask.BackAnswer.{BackAnswer}
 use Rattle.blk_base.specs.declared.ask.BackAnswer.TheVariants as answers
 use Rattle.blk_base.specs.declared.moves.Move.TheVariants as moves
 use Rattle.schedule_text.specs.declared.line.Line.{Line}
 use Rattle.schedule_text.specs.declared.line.Line.TheVariants as lines
-use Rattle.schedule_text.specs.declared.line.Halt.{Halt as HaltLine}
+use Rattle.blk_base.specs.declared.halt.Halt.{Halt}
 use Rattle.hypervisor.specs.Act.{FrontAct, BackAct, Took}
 use Rattle.blk_front.specs.declared.told.Told.{Told}
 use Rattle.blk_front.specs.declared.told.Told.TheVariants as front_told
-use Rattle.blk_front.specs.declared.told.Refusal.{Refusal}
+use Rattle.blk_base.specs.declared.refusal.Refusal.{Refusal}
 use Rattle.blk_front.specs.View as front
 use Rattle.blk_front.specs.Step as front_step
 use Rattle.blk_front.specs.Submit as front_submit
 use Rattle.blk_back.specs.declared.told.BackTold.{BackTold}
 use Rattle.blk_back.specs.declared.told.BackTold.TheVariants as back_told
-use Rattle.blk_back.specs.declared.told.Halt.{Halt}
 use Rattle.blk_back.specs.View as back
 use Rattle.blk_back.specs.Step as back_step
 use Rattle.split_model.specs.World.{World}
-use Rattle.split_model.specs.Shown.{front_lines, back_lines, halt_line, halt_lines, effect_line, refusal_word}
+use Rattle.split_model.specs.Shown.{front_lines, back_lines, halt_lines, effect_line}
 use Rattle.split_model.specs.Happening.{Happening, FrontMoves, BackMoves, JobMoves, Negotiates, FrontEnters, BackAttaches, BackHalts, Submits, Notifies, Pokes, OverwritesKey, Suspends, Dumps, Looks, Settles, lines_at, front_shows, back_shows, job_shows, front_turn, back_turn, job_turn, submit_line, layout_read}
 use Rattle.split_model.proofs.Keys.{negotiated_lines_are}
 use Rattle.split_model.proofs.States.{enter_lines_are, state_lines_are}
@@ -139,9 +138,9 @@ back_told_is P each (Some (back_told.Trimmed id)) a = (each (lines.Trimmed id) t
 back_told_is P each (Some (back_told.Fault id index)) a = (each (lines.Fault id index) tt tt, tt)
 back_told_is P each (Some (back_told.Reply id status)) a = (each (lines.Reply id status) tt tt, tt)
 
-pub halt_is : (P : Line → Type 0) → ((why : HaltLine) → P (lines.Halt why)) → (before now : Option Halt) → AllByRecursion P (halt_lines before now)
+pub halt_is : (P : Line → Type 0) → ((why : Halt) → P (lines.Halt why)) → (before now : Option Halt) → AllByRecursion P (halt_lines before now)
 halt_is P each None None = tt
-halt_is P each None (Some why) = (each (halt_line why), tt)
+halt_is P each None (Some why) = (each why, tt)
 halt_is P each (Some g) now = tt
 
 pub both_all : (P : Line → Type 0) (a b : List Line) → AllByRecursion P a → AllByRecursion P b → AllByRecursion P (a ++ b)
@@ -166,9 +165,9 @@ job_are P each w number None = tt
 job_are P each w number (Some a) =
     (each (lines.Move a.shown) tt, back_told_is P (λ line told shows. each line shows) (let b : back.View = back_step.job_step w.back number a.answer in b.told) a.answer)
 
-submit_is : (P : Line → Type 0) → ((line : Line) → IsOfSubmission line → P line) → (job : Job) (r : Result ℕ Refusal) → P (submit_line job r)
+submit_is : (P : Line → Type 0) → ((line : Line) → IsOfSubmission line → P line) → (job : Submission) (r : Result ℕ Refusal) → P (submit_line job r)
 submit_is P each job (Ok number) = each (lines.Submit number job) tt
-submit_is P each job (Err r) = each (lines.Refuse (refusal_word r)) tt
+submit_is P each job (Err r) = each (lines.Refuse r) tt
 
 found_is : (P : Line → Type 0) → ((line : Line) → IsFound line → P line) → (quiet : Bool) (other : Line) → IsFound other → P (if quiet then lines.Quiet else other)
 found_is P each true other is = each lines.Quiet tt

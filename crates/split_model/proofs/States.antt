@@ -10,7 +10,7 @@ use Rattle.blk_front.specs.State.{may_enter, in_state, enters}
 use Rattle.blk_front.specs.View as front
 use Rattle.blk_back.specs.declared.stage.BackStage.{BackStage}
 use Rattle.blk_back.specs.declared.stage.BackStage.TheVariants as back_stage
-use Rattle.blk_back.specs.declared.told.Halt.{Halt}
+use Rattle.blk_base.specs.declared.halt.Halt.{Halt}
 use Rattle.blk_back.specs.View as back
 use Rattle.blk_back.specs.Step.{unbound, halts_at, may_halt, halts, abort}
 use Rattle.split_model.specs.Shown.{state_lines}

@@ -9,7 +9,7 @@ use Rattle.hypervisor.specs.Suspend.{suspended as under_suspended}
 use Rattle.blk_front.specs.State.{is_open}
 use Rattle.blk_front.specs.Suspend.{resumed, suspended as front_suspended}
 use Rattle.blk_front.specs.View as front
-use Rattle.blk_back.specs.declared.told.Halt.TheVariants as halt
+use Rattle.blk_base.specs.declared.halt.Halt.TheVariants as halt
 use Rattle.blk_back.specs.Hands.{hands_of}
 use Rattle.blk_back.specs.Step.{halts}
 use Rattle.blk_back.specs.View as back
@@ -41,8 +41,6 @@ front_cases P v anew still = by_test (is_open v.stage) refl
 
 -- what a suspend leaves of the front
 pub record IsKept (v x : front.View) : Type 0 where
-  pub sectors : x.sectors ≡ v.sectors
-  pub read_only : x.read_only ≡ v.read_only
   pub start : x.start ≡ v.start
   pub shape : x.shape ≡ v.shape
   pub closing : x.closing ≡ v.closing
@@ -53,8 +51,8 @@ pub record IsKept (v x : front.View) : Type 0 where
 pub front_kept : (v : front.View) → IsKept v (front_suspended v)
 front_kept v =
     front_cases (IsKept v) v
-    (λ on. record { sectors = refl; read_only = refl; start = refl; shape = refl; closing = refl; last = refl; pool = refl; told = refl })
-    (λ closed. record { sectors = refl; read_only = refl; start = refl; shape = refl; closing = refl; last = refl; pool = refl; told = refl })
+    (λ on. record { start = refl; shape = refl; closing = refl; last = refl; pool = refl; told = refl })
+    (λ closed. record { start = refl; shape = refl; closing = refl; last = refl; pool = refl; told = refl })
 
 -- the back that begins then, and the one whose front is gone
 abbrev pub begun_back : World → back.View

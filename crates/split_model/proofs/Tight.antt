@@ -7,7 +7,7 @@ use Rattle.hypervisor.specs.Act.{FrontAct, BackAct, Took}
 use Rattle.blk_front.specs.Step as front_step
 use Rattle.blk_front.specs.View as front
 use Rattle.blk_back.specs.Step as back_step
-use Rattle.blk_back.specs.declared.told.Halt.TheVariants as halt
+use Rattle.blk_base.specs.declared.halt.Halt.TheVariants as halt
 use Rattle.blk_back.specs.View as back
 use Rattle.blk_back.specs.View.{info_of}
 use Rattle.segment_list.specs.declared.verdict.DiskInfo.{DiskInfo}

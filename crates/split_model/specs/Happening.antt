@@ -1,6 +1,6 @@
 -- What may happen to the machine, what it makes of it, and the lines that it shows.
 use Rattle.std.specs.Prelude.{◌≡◌, ℕ, zero, suc, ◌+◌, ◌*◌, ◌/◌, ◌%◌, ◌^◌, Bool, ◌&&◌, nat_lt, List, [], ◌∷◌, ◌++◌, Option, Some, None, Result, Ok, Err, if◌then◌else◌}
-use Rattle.blk_base.specs.declared.config.Job.{Job}
+use Rattle.blk_base.specs.declared.config.Submission.{Submission}
 use Rattle.blk_io.specs.Disk.{DiskSeen}
 use Rattle.blk_base.specs.declared.parts.End.{End}
 use Rattle.blk_base.specs.declared.parts.End.TheVariants as end
@@ -19,19 +19,19 @@ use Rattle.hypervisor.specs.Hypervisor.{Hypervisor}
 use Rattle.hypervisor.specs.Act.{FrontAct, BackAct, Outcome, Took, front_act, back_act, with_pages, with_keys}
 use Rattle.hypervisor.specs.Disk.{DiskDoes}
 use Rattle.blk_front.specs.declared.state.FrontState.{FrontState}
-use Rattle.blk_front.specs.declared.told.Refusal.{Refusal}
+use Rattle.blk_base.specs.declared.refusal.Refusal.{Refusal}
 use Rattle.blk_front.specs.View as front
 use Rattle.blk_front.specs.Ask as front_ask
 use Rattle.blk_front.specs.Step as front_step
 use Rattle.blk_front.specs.Submit as front_submit
 use Rattle.blk_front.specs.State as front_state
-use Rattle.blk_back.specs.declared.told.Halt.{Halt}
+use Rattle.blk_base.specs.declared.halt.Halt.{Halt}
 use Rattle.blk_back.specs.View as back
 use Rattle.blk_back.specs.Ask as back_ask
 use Rattle.blk_back.specs.Step as back_step
 use Rattle.split_model.specs.World.{World, may_suspend, suspended}
 use Rattle.split_model.specs.Keys.{KeyMove, front_path, layout_path, is_layout, said_by, says_served, negotiated, negotiated_lines}
-use Rattle.split_model.specs.Shown.{front_lines, back_lines, halt_lines, state_lines, refusal_word}
+use Rattle.split_model.specs.Shown.{front_lines, back_lines, halt_lines, state_lines}
 
 -- a move of the front, of the back, or of the job of a number with what the disk answers it; what an end does with the keys; a state that its negotiation has the front enter, the terms of its front that the back takes as it reads the key for the layout, and a reason for which its negotiation has it halt; a submission; a spurious event at an end's bound port; a word of the guest's memory, or a key of the front, overwritten by a hostile hand; the domain suspended and resumed; a look at the words of the ring, at whether all is quiet, with what was found, and one when the rounds are over
 pub data Happening : Type 0 where
@@ -42,7 +42,7 @@ pub data Happening : Type 0 where
   FrontEnters : (state : FrontState) → Happening
   BackAttaches : (shape : Shape) (grefs : List ℕ) (port : ℕ) → Happening
   BackHalts : (why : Halt) → Happening
-  Submits : (job : Job) → Happening
+  Submits : (job : Submission) → Happening
   Notifies : (at : End) → Happening
   Pokes : (frame word value : ℕ) → Happening
   OverwritesKey : (name text : List ℕ) → Happening
@@ -89,9 +89,9 @@ back_turn w outcome = back_act w.under back_mover.Back (back_ask.ask_of w.back) 
 abbrev pub job_turn : World → ℕ → Outcome → Option BackAct
 job_turn w number outcome = back_act w.under (back_mover.Job number) (back_step.job_ask_of w.back number) outcome
 
-abbrev pub submit_line : Job → Result ℕ Refusal → Line
+abbrev pub submit_line : Submission → Result ℕ Refusal → Line
 submit_line job (Ok number) = Submit number job
-submit_line job (Err r) = Refuse (refusal_word r)
+submit_line job (Err r) = Refuse r
 
 -- an event at an end is one that the other end sends
 abbrev pub other_end : End → End

@@ -19,7 +19,7 @@ moment w disk recorder = record { world = w; disk = disk; recorder = recorder }
 -- so many mappings more were made at most; what is attached stays
 pub record Keeps (n : ℕ) (a b : Moment) : Type 0 where
   pub made : b.world.under.grants.made ≤ a.world.under.grants.made + n
-  pub sectors : b.world.front.sectors ≡ a.world.front.sectors
+  pub sectors : b.world.back.jobs.info.sectors ≡ a.world.back.jobs.info.sectors
   pub attachment : b.disk.attachment ≡ a.disk.attachment
 
 -- happenings of this kind lead from the one moment to the other

@@ -50,7 +50,6 @@ ports_due w = due_at w.front.stage
 pub record IsSafe (w : World) : Type 0 where
   pub ported : IsPorted w.front.stage w.under.channels
   pub held : AreHeld w.under.grants (hands_of w.back)
-  pub sized : w.back.jobs.info.sectors ≡ w.front.sectors
   pub front_told : w.front.told ≡ None
   pub back_told : w.back.told ≡ None
 

@@ -4,20 +4,13 @@ use Rattle.blk_base.specs.declared.ask.BackAnswer.{BackAnswer}
 use Rattle.blk_base.specs.declared.ask.BackAnswer.TheVariants.{Sector}
 use Rattle.schedule_text.specs.declared.line.Line.{Line}
 use Rattle.schedule_text.specs.declared.line.Line.TheVariants as lines
-use Rattle.schedule_text.specs.declared.line.Halt.{Halt as HaltLine}
-use Rattle.schedule_text.specs.declared.line.Halt.TheVariants as halts
-use Rattle.schedule_text.specs.declared.line.Refusal.{Refusal as RefusalWord}
-use Rattle.schedule_text.specs.declared.line.Refusal.TheVariants as words
 use Rattle.blk_front.specs.declared.told.Told.{Told}
 use Rattle.blk_front.specs.declared.told.Told.TheVariants as front_told
 use Rattle.blk_front.specs.declared.state.FrontState.{FrontState}
 use Rattle.blk_front.specs.declared.state.FrontState.TheVariants as state
-use Rattle.blk_front.specs.declared.told.Refusal.{Refusal}
-use Rattle.blk_front.specs.declared.told.Refusal.TheVariants as refusal
 use Rattle.blk_back.specs.declared.told.BackTold.{BackTold}
 use Rattle.blk_back.specs.declared.told.BackTold.TheVariants as back_told
-use Rattle.blk_back.specs.declared.told.Halt.{Halt}
-use Rattle.blk_back.specs.declared.told.Halt.TheVariants as halt
+use Rattle.blk_base.specs.declared.halt.Halt.{Halt}
 
 abbrev pub front_lines : Option Told → List Line
 front_lines None = []
@@ -47,27 +40,7 @@ back_lines (Some (back_told.Trimmed id)) answer = lines.Trimmed id ∷ []
 back_lines (Some (back_told.Fault id index)) answer = lines.Fault id index ∷ []
 back_lines (Some (back_told.Reply id status)) answer = lines.Reply id status ∷ []
 
-abbrev pub halt_line : Halt → HaltLine
-halt_line (halt.Overrun prod rsp_prod) = halts.Overrun prod rsp_prod
-halt_line (halt.Gone state) = halts.Gone state
-halt_line (halt.Unplugged state) = halts.Unplugged state
-halt_line (halt.BadKey name) = halts.BadKey name
-halt_line (halt.BadOrder state) = halts.BadOrder state
-halt_line (halt.BadPort p) = halts.BadPort p
-halt_line (halt.MapRefused gref status) = halts.MapRefused gref status
-
 -- the line of a halt, where the back halts
 abbrev pub halt_lines : Option Halt → Option Halt → List Line
-halt_lines None (Some h) = lines.Halt (halt_line h) ∷ []
+halt_lines None (Some h) = lines.Halt h ∷ []
 halt_lines before after = []
-
-abbrev pub refusal_word : Refusal → RefusalWord
-refusal_word refusal.Spent = words.Spent
-refusal_word refusal.Closing = words.Closing
-refusal_word refusal.NotReady = words.NotReady
-refusal_word refusal.Unsupported = words.Unsupported
-refusal_word refusal.ReadOnly = words.ReadOnly
-refusal_word refusal.Range = words.Range
-refusal_word refusal.Long = words.Long
-refusal_word refusal.Full = words.Full
-refusal_word refusal.Buffers = words.Buffers

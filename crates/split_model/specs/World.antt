@@ -11,7 +11,7 @@ use Rattle.blk_front.specs.State.{is_open}
 use Rattle.blk_front.specs.Suspend.{suspended as front_suspended}
 use Rattle.blk_front.specs.Submit as front_submit
 use Rattle.blk_back.specs.View as back
-use Rattle.blk_back.specs.declared.told.Halt.TheVariants as halt
+use Rattle.blk_base.specs.declared.halt.Halt.TheVariants as halt
 use Rattle.blk_back.specs.Ask.{is_idle}
 use Rattle.blk_back.specs.Step.{halts}
 

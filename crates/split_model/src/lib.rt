@@ -34,8 +34,8 @@ pub fn every_ask_may_be_carried_out()
     ensures after { (hs : List Happening) (w : World) → IsSafe w → IsSafe (after hs w) }
     ensures front { (w : World) → IsSafe w → StaysInMemory (front_ask w.front) → FrontMay w.under (front_ask w.front) }
     ensures back { (w : World) → IsSafe w → Names (hands_of w.back) (back_ask w.back) → w.under.grants.made + 1 < 2 ^ 64
-        → length (hands_of w.back) ≤ 529 → BackMay w.under (Some w.front.sectors) (back_ask w.back) }
+        → length (hands_of w.back) ≤ 529 → BackMay w.under (Some w.back.jobs.info.sectors) (back_ask w.back) }
     ensures job { (w : World) (number : ℕ) → IsSafe w → Names (hands_of w.back) (job_ask_of w.back number)
         → StaysInPageAndDisk w.back.jobs.info.sectors (job_ask_of w.back number) → w.under.grants.made + 1 < 2 ^ 64 → length (hands_of w.back) ≤ 529
-        → BackMay w.under (Some w.front.sectors) (job_ask_of w.back number) }
+        → BackMay w.under (Some w.back.jobs.info.sectors) (job_ask_of w.back number) }
 {}

@@ -14,8 +14,8 @@ mod ring;
 use crate::key::Key;
 use crate::moves;
 use crate::turn::{Turn, turn_of};
-use blk_back::{Back, Halt};
-use blk_base::{BackAnswer, BackAsk, Config, Endpoint, OutOfMemory};
+use blk_back::Back;
+use blk_base::{BackAnswer, BackAsk, Config, Endpoint, Halt, OutOfMemory};
 use std::alloc::Global;
 use std::marker::Model;
 use xenbus_state::{BackBus, DiskFacts, Features};
@@ -121,7 +121,7 @@ impl<'a> Endpoint<'a> for Backend {
 
     ghost asked = { ask_of };
 
-    ghost MayComplete = { λ backend answer. IsAnswer (ask_of backend) answer × (backend.ring.told ≡ None) };
+    ghost MayTell = { λ backend answer. IsAnswer (ask_of backend) answer × (backend.ring.told ≡ None) };
 
     #[inline(always)]
     #[tactic(auto, using(crate::proofs::Turns::open_asks))]
@@ -139,7 +139,7 @@ impl<'a> Endpoint<'a> for Backend {
         }
     }
 
-    fn complete(&mut self, answer: &BackAnswer<'a>) -> Result<(), OutOfMemory>
+    fn tell(&mut self, answer: &BackAnswer<'a>) -> Result<(), OutOfMemory>
         requires { IsAnswer (ask_of self.old) answer.now × (self.old.ring.told ≡ None) }
         ensures completed { self.new ≡ step_of self.old answer.now }
         ensures hands { HandsAfter (ask_of self.old) answer.now (hands_of self.old.ring) (hands_of self.new.ring) }
@@ -182,14 +182,14 @@ impl Backend {
         }
     }
 
-    // Completes what is asked by this answer, whosever turn it is.
+    // Answers what is asked, whosever turn it is.
     #[inline(never)]
     fn tell_by_turn(&mut self, answer: &BackAnswer)
         requires kind { IsAnswer (ask_of self.old) answer.now }
         requires heard { self.old.ring.told ≡ None }
         ensures { self.new ≡ step_of self.old answer.now }
     {
-        moves::complete(self.turn, &mut self.ring, &mut self.bus, answer);
+        moves::tell(self.turn, &mut self.ring, &mut self.bus, answer);
         self.turn = turn_of(&self.bus, &self.ring);
         self.key = Key::of(&self.bus.ask());
     }
@@ -204,7 +204,7 @@ impl Backend {
         requires heard { self.old.ring.told ≡ None }
         ensures { self.new ≡ step_of self.old answer.now }
     {
-        let _ = self.ring.complete(answer);
+        let _ = self.ring.tell(answer);
         if self.ring.halted().is_some() {
             moves::catch_up(&self.ring, &mut self.bus);
             self.turn = turn_of(&self.bus, &self.ring);

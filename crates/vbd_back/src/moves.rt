@@ -8,12 +8,12 @@ ghost use Rattle.vbd_back.specs.Turn.{turn_of};
 ghost use Rattle.vbd_back.specs.Step.{ring_halt, spoken, ring_step, step_of, IsHeard, followed, waited, settled, caught_up};
 
 use crate::turn::Turn;
-use blk_back::{Back, BackStage, Halt};
-use blk_base::{BackAnswer, Endpoint, ShortText};
+use blk_back::{Back, BackStage};
+use blk_base::{BackAnswer, Endpoint, Halt, ShortText};
 use xenbus_state::{BackBus, BackBusAsk, BackHalt, FrontKey};
 
-/// Completes what is asked by this answer, whosever turn it is.
-pub fn complete(turn: Turn, ring: &mut Back, bus: &mut BackBus, answer: &BackAnswer)
+/// Answers what is asked, whosever turn it is.
+pub fn tell(turn: Turn, ring: &mut Back, bus: &mut BackBus, answer: &BackAnswer)
     requires turn { turn ≡ turn_of (both ring.old bus.old) }
     requires kind { IsAnswer (ask_of (both ring.old bus.old)) answer.now }
     requires heard { ring.old.told ≡ None }
@@ -53,7 +53,7 @@ fn take_key(ring: &mut Back, bus: &mut BackBus, answer: &BackAnswer)
     ensures { both ring.new bus.new ≡ spoken (both ring.old bus.old) answer.now }
 {
     let reads_layout = matches!(bus.ask(), BackBusAsk::GetKey(FrontKey::Protocol));
-    match bus.complete(answer) {
+    match bus.tell(answer) {
         Some(why) => ring.halt(ring_halt(why)),
         None if reads_layout => {
             let terms = bus.terms();
@@ -88,7 +88,7 @@ fn move_ring(ring: &mut Back, bus: &mut BackBus, answer: &BackAnswer)
     requires heard { ring.old.told ≡ None }
     ensures { both ring.new bus.new ≡ ring_step true (bus_ask bus.old) (both ring.old bus.old) answer.now }
 {
-    let _ = ring.complete(answer);
+    let _ = ring.tell(answer);
     follow(bus, answer);
     catch_up(ring, bus);
 }
@@ -100,10 +100,10 @@ fn follow(bus: &mut BackBus, answer: &BackAnswer)
 {
     match bus.ask() {
         BackBusAsk::Map(_) | BackBusAsk::Bind(_) | BackBusAsk::ClosePort => {
-            let _ = bus.complete(answer);
+            let _ = bus.tell(answer);
         }
         BackBusAsk::Unmap(_) => {
-            let _ = bus.complete(&BackAnswer::Done);
+            let _ = bus.tell(&BackAnswer::Done);
         }
         _ => wake(bus, answer),
     }
@@ -114,7 +114,7 @@ fn wake(bus: &mut BackBus, answer: &BackAnswer)
     ensures { bus.new ≡ waited (bus_ask bus.old) bus.old answer.now }
 {
     if let (BackBusAsk::Wait, BackAnswer::Watched(_)) = (bus.ask(), answer) {
-        let _ = bus.complete(answer);
+        let _ = bus.tell(answer);
     }
 }
 
@@ -136,7 +136,7 @@ fn settle(bus: &mut BackBus, stage: BackStage)
     match (bus.ask(), stage) {
         (BackBusAsk::UnmapOthers, BackStage::Abort(_)) => {}
         (BackBusAsk::UnmapOthers, _) => {
-            let _ = bus.complete(&BackAnswer::Done);
+            let _ = bus.tell(&BackAnswer::Done);
         }
         _ => {}
     }

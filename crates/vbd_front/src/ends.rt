@@ -13,8 +13,8 @@ ghost use Rattle.vbd_front.specs.Turn.{turn_of};
 
 use crate::news;
 use crate::turn::{self, Turn};
-use blk_base::{Config, Endpoint, FrontAnswer, FrontAsk, Job, OutOfMemory};
-use blk_front::{Front, FrontStage, Refusal, Told};
+use blk_base::{Config, Endpoint, FrontAnswer, FrontAsk, OutOfMemory, Refusal, Submission};
+use blk_front::{Front, FrontStage, Told};
 use std::alloc::Global;
 use std::marker::Model;
 use xenbus_state::{FrontBus, FrontBusAsk, FrontNews};
@@ -119,17 +119,17 @@ impl Ends {
 
     /// The ring's end was answered, of which the negotiation learns nothing.
     #[inline(always)]
-    pub fn complete_ring<'a>(&mut self, answer: &FrontAnswer<'a>)
+    pub fn tell_ring<'a>(&mut self, answer: &FrontAnswer<'a>)
         requires kind { IsRingAnswer (ring_ask_of self.old.ring) answer.now }
         requires told { self.old.ring.told ≡ None }
         ensures { self.new ≡ record self.old { ring = ring_step_of self.old.ring answer.now } }
     {
-        let _ = self.ring.complete(answer);
+        let _ = self.ring.tell(answer);
     }
 
-    /// Completes what is asked by this answer, whosever turn it is.
+    /// Answers what is asked, whosever turn it is.
     #[tactic(auto, using(crate::proofs::Turns::ring_answers, crate::proofs::Turns::ring_steps, crate::proofs::Turns::left_steps, crate::proofs::Turns::left_speaks, crate::proofs::Turns::left_answers))]
-    pub fn complete<'a>(&mut self, turn: Turn, answer: &FrontAnswer<'a>)
+    pub fn tell<'a>(&mut self, turn: Turn, answer: &FrontAnswer<'a>)
         requires turn { turn ≡ turn_of self.old }
         requires kind { IsAnswer (ask_of self.old) answer.now }
         requires told { self.old.ring.told ≡ None }
@@ -137,7 +137,7 @@ impl Ends {
     {
         match turn {
             Turn::Keys => self.take_key(answer),
-            _ if self.ring.has_left() => self.complete_ring(answer),
+            _ if self.ring.has_left() => self.tell_ring(answer),
             _ if self.ring_moves() => self.move_ring(answer),
             _ => self.take_watch(answer),
         }
@@ -150,7 +150,7 @@ impl Ends {
         ensures { self.new ≡ spoken self.old answer.now }
     {
         let idle = self.is_unoccupied();
-        let news = news::complete(&mut self.bus, idle, answer);
+        let news = news::tell(&mut self.bus, idle, answer);
         self.news = news::enter(&mut self.ring, news, &self.bus.ask(idle), &self.bus);
     }
 
@@ -164,7 +164,7 @@ impl Ends {
         ensures { self.new ≡ ring_step true (bus_ask_of self.old) self.old answer.now }
     {
         let idle = self.is_unoccupied();
-        let _ = self.ring.complete(answer);
+        let _ = self.ring.tell(answer);
         news::follow(&mut self.bus, idle, self.ring.stage(), answer);
     }
 
@@ -207,11 +207,11 @@ impl Ends {
     }
 
     /// Hands the ring's end a request.
-    pub fn submit(&mut self, job: Job) -> Result<u32, Refusal>
-        ensures answer { result ≡ (submit_of self.old.ring job).0 }
-        ensures front { self.new ≡ record self.old { ring = (submit_of self.old.ring job).1 } }
+    pub fn submit(&mut self, submission: Submission) -> Result<u32, Refusal>
+        ensures answer { result ≡ (submit_of self.old.ring submission).0 }
+        ensures front { self.new ≡ record self.old { ring = (submit_of self.old.ring submission).1 } }
     {
-        self.ring.submit(job)
+        self.ring.submit(submission)
     }
 
     /// Whether the ring's end asks for nothing but an event.

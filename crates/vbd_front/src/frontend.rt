@@ -10,8 +10,8 @@ ghost use Rattle.vbd_front.specs.Step.{step_of, closes, suspended};
 use crate::ends::Ends;
 use crate::key::Key;
 use crate::turn::Turn;
-use blk_base::{Config, Endpoint, FrontAnswer, FrontAsk, Job, OutOfMemory};
-use blk_front::{Refusal, Told};
+use blk_base::{Config, Endpoint, FrontAnswer, FrontAsk, OutOfMemory, Refusal, Submission};
+use blk_front::Told;
 use std::alloc::Global;
 use std::marker::Model;
 use xenbus_state::FrontNews;
@@ -51,11 +51,11 @@ impl Frontend {
 
     /// Hands the ring's end a request, and answers its number, one more than the last. A refusal is
     /// the first that applies, exactly where it does, and changes nothing. It takes no memory.
-    pub fn submit(&mut self, job: Job) -> Result<u32, Refusal>
-        ensures answer { result ≡ (submit_of self.old.ring job).0 }
-        ensures front { self.new ≡ record self.old { ring = (submit_of self.old.ring job).1 } }
+    pub fn submit(&mut self, submission: Submission) -> Result<u32, Refusal>
+        ensures answer { result ≡ (submit_of self.old.ring submission).0 }
+        ensures front { self.new ≡ record self.old { ring = (submit_of self.old.ring submission).1 } }
     {
-        let answer = self.ends.submit(job);
+        let answer = self.ends.submit(submission);
         self.turn = self.ends.turn();
         self.key = Key::of(&self.ends.bus_ask());
         answer
@@ -185,14 +185,14 @@ impl Frontend {
         }
     }
 
-    // Completes what is asked by this answer, whosever turn it is.
+    // Answers what is asked, whosever turn it is.
     #[inline(never)]
     fn tell_by_turn<'a>(&mut self, answer: &FrontAnswer<'a>)
         requires kind { IsAnswer (ask_of self.old) answer.now }
         requires told { self.old.ring.told ≡ None }
         ensures { self.new ≡ step_of self.old answer.now }
     {
-        self.ends.complete(self.turn, answer);
+        self.ends.tell(self.turn, answer);
         self.turn = self.ends.turn();
         self.key = Key::of(&self.ends.bus_ask());
     }
@@ -208,7 +208,7 @@ impl<'a> Endpoint<'a> for Frontend {
 
     ghost asked = { ask_of };
 
-    ghost MayComplete = { λ front answer. IsAnswer (ask_of front) answer × (front.ring.told ≡ None) };
+    ghost MayTell = { λ front answer. IsAnswer (ask_of front) answer × (front.ring.told ≡ None) };
 
     #[inline(always)]
     #[tactic(auto, using(crate::proofs::Turns::made_asks))]
@@ -225,7 +225,7 @@ impl<'a> Endpoint<'a> for Frontend {
 
     #[inline(always)]
     #[tactic(auto, using(crate::proofs::Turns::made_answers, crate::proofs::Turns::made_steps))]
-    fn complete(&mut self, answer: &FrontAnswer<'a>) -> Result<(), OutOfMemory>
+    fn tell(&mut self, answer: &FrontAnswer<'a>) -> Result<(), OutOfMemory>
         requires { IsAnswer (ask_of self.old) answer.now × (self.old.ring.told ≡ None) }
         ensures completed { self.new ≡ step_of self.old answer.now }
         ensures takes_no_memory { IsOk result }
@@ -234,7 +234,7 @@ impl<'a> Endpoint<'a> for Frontend {
         // The negotiation learns nothing of the moves of a ring that is made, but of a watch.
         match (self.turn, answer) {
             (Turn::Ring, FrontAnswer::Event | FrontAnswer::Done | FrontAnswer::Word(_)) => {
-                self.ends.complete_ring(answer);
+                self.ends.tell_ring(answer);
             }
             _ => self.tell_by_turn(answer),
         }

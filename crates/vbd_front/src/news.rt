@@ -9,27 +9,30 @@ use blk_base::FrontAnswer;
 use blk_front::{Front, FrontStage, FrontState, Offers};
 use xenbus_state::{FrontBus, FrontBusAsk, FrontNews};
 
-/// Completes what the negotiation asks by this answer, and says that there are no grants to end beside those
+/// Answers what the negotiation asks, and says that there are no grants to end beside those
 /// of the ring; what that makes happen.
-pub fn complete(bus: &mut FrontBus, idle: bool, answer: &FrontAnswer) -> Option<FrontNews>
+pub fn tell(bus: &mut FrontBus, idle: bool, answer: &FrontAnswer) -> Option<FrontNews>
     requires { IsAnswer (ask_of bus.old idle) answer.now }
     ensures told { bus.new ≡ bus_told idle bus.old answer.now }
     ensures news { result ≡ news_of bus.old idle answer.now }
 {
-    let news = bus.complete(idle, answer);
+    let news = bus.tell(idle, answer);
     if let FrontBusAsk::EndOtherGrants = bus.ask(idle) {
-        let _ = bus.complete(idle, &FrontAnswer::Done);
+        let _ = bus.tell(idle, &FrontAnswer::Done);
     }
     news
 }
 
-/// What the back serves beside reads and writes, and how many segments it takes in indirect pages, as
-/// the negotiation read it.
+/// The disk's sectors and whether it is read-only, what the back serves beside reads and writes, and
+/// how many segments it takes in indirect pages, as the negotiation read it.
 pub fn offers(bus: &FrontBus) -> Offers
     ensures { result ≡ offers_of bus.now }
 {
+    let disk = bus.disk();
     let features = bus.features();
     Offers {
+        sectors: disk.sectors,
+        read_only: disk.read_only,
         barrier: features.barrier,
         flush: features.flush,
         discard: features.discard,
@@ -86,10 +89,10 @@ pub fn follow(bus: &mut FrontBus, idle: bool, later: FrontStage, answer: &FrontA
     match (bus.ask(idle), later) {
         (FrontBusAsk::WriteRingWord(_) | FrontBusAsk::NewPort | FrontBusAsk::ClosePort, _)
         | (FrontBusAsk::Grant(_), FrontStage::RingFrame(_) | FrontStage::NewPort) => {
-            complete(bus, idle, answer);
+            tell(bus, idle, answer);
         }
         (FrontBusAsk::EndGrant(_), FrontStage::RingRead(_) | FrontStage::ClosePort) => {
-            complete(bus, idle, &FrontAnswer::Done);
+            tell(bus, idle, &FrontAnswer::Done);
         }
         (FrontBusAsk::Wait, FrontStage::Broken(_)) => {}
         (FrontBusAsk::Wait, _) => wake(bus, idle, answer),
@@ -102,6 +105,6 @@ pub fn wake(bus: &mut FrontBus, idle: bool, answer: &FrontAnswer)
     ensures { bus.new ≡ waited (ask_of bus.old idle) idle bus.old answer.now }
 {
     if let (FrontBusAsk::Wait, FrontAnswer::Watched(_)) = (bus.ask(idle), answer) {
-        complete(bus, idle, answer);
+        tell(bus, idle, answer);
     }
 }

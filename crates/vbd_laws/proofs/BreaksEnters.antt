@@ -7,7 +7,7 @@ use Rattle.std.proofs.lemmas.Bool.{cases_lt}
 use Rattle.std.proofs.lemmas.Bool.Decides.{nat_tests}
 use Rattle.std.proofs.lemmas.List.Elements.{All-nil, All-push}
 use Rattle.line_text.proofs.Both.{both_true}
-use Rattle.blk_base.specs.declared.config.Job.{Job}
+use Rattle.blk_base.specs.declared.config.Submission.{Submission}
 use Rattle.ring_words.specs.Shape.{entries_of}
 use Rattle.schedule_text.specs.declared.line.Line.{Line}
 use Rattle.schedule_text.specs.declared.line.Line.TheVariants as lines
@@ -18,7 +18,7 @@ use Rattle.blk_front.specs.declared.stage.FrontStage.TheVariants as stage
 use Rattle.blk_front.specs.declared.stage.Ending.{Ending}
 use Rattle.blk_front.specs.declared.state.FrontState.{FrontState}
 use Rattle.blk_front.specs.declared.state.FrontState.TheVariants as enter
-use Rattle.blk_front.specs.declared.told.Refusal.{Refusal}
+use Rattle.blk_base.specs.declared.refusal.Refusal.{Refusal}
 use Rattle.blk_front.specs.Pool.{taking, with_taken}
 use Rattle.blk_front.specs.Request.{is_write, named_of, frames_for}
 use Rattle.blk_front.specs.State.{is_open, is_unmade, is_made, may_enter, in_state, enters}
@@ -109,7 +109,7 @@ taking_pooled (suc n) pool frames taken size all e =
     ]
 
 -- what a submission gives: a refusal, or the next number
-submit_cases : (P : Result ℕ Refusal × View → Type 0) (v : View) (job : Job) → ((why : Refusal) → P (Err why, v)) → ((wish : Wish) (taken : List ℕ × List Bool) → taking (frames_taken wish.count) v.pool [] ≡ Some taken → P (Ok (v.last + 1), accepted v wish taken)) → P (submit_of v job)
+submit_cases : (P : Result ℕ Refusal × View → Type 0) (v : View) (job : Submission) → ((why : Refusal) → P (Err why, v)) → ((wish : Wish) (taken : List ℕ × List Bool) → taking (frames_taken wish.count) v.pool [] ≡ Some taken → P (Ok (v.last + 1), accepted v wish taken)) → P (submit_of v job)
 submit_cases P v job refused takes =
     either (v.last == 4294967295) _ _ (refused _) (either v.closing _ _ (refused _) (either (not (is_ready v.stage)) _ _ (refused _) (by_wish (wish_of v.offers job))))
   where
@@ -124,7 +124,7 @@ submit_cases P v job refused takes =
     by_wish : (o : Option Wish) → P (submit_one v o)
     by_wish None = refused _
     by_wish (Some wish) =
-        either (is_write wish.transfer && v.read_only) _ _ (refused _) (either (nat_lt v.sectors (wish.sector + named_of wish.transfer wish.count)) _ _ (refused _)
+        either (is_write wish.transfer && v.offers.read_only) _ _ (refused _) (either (nat_lt v.offers.sectors (wish.sector + named_of wish.transfer wish.count)) _ _ (refused _)
         (either (nat_lt (most_segments v.offers wish.transfer) (frames_for wish.count)) _ _ (refused _) (either (nat_le (entries_of v.shape.order) (unfinished v)) _ _ (refused _) (by_taken wish (taking (frames_taken wish.count) v.pool []) refl))))
 
 -- the next request stays
@@ -151,7 +151,7 @@ at_more stage.Producer response written p next more at = record { r = at.r; next
 at_more t response written p next more at = at
 
 -- a submission
-pub submit_knows : (s : FrontSight) (v : View) (job : Job) → length v.pool ≡ 1000 → Knows s v → (let x : Result ℕ Refusal × View = submit_of v job in Knows (after_line s (submit_line job x.0)) x.1)
+pub submit_knows : (s : FrontSight) (v : View) (job : Submission) → length v.pool ≡ 1000 → Knows s v → (let x : Result ℕ Refusal × View = submit_of v job in Knows (after_line s (submit_line job x.0)) x.1)
 submit_knows s v job size knows =
     submit_cases (λ (x : Result ℕ Refusal × View). Knows (after_line s (submit_line job x.0)) x.1) v job (λ why opened. knows opened)
     (λ wish taken e opened. (

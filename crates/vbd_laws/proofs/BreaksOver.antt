@@ -1,9 +1,9 @@
 -- A front that is closed or broken: no state is entered any more, its negotiation doesn't speak, and no submission is accepted.
 use Rattle.std.proofs.Common.{inl, inr, ◌≡◌, ℕ, ◌==◌, ◌&&◌, Bool, true, false, true≢false, not, if◌then◌else◌, List, [], ◌∷◌, refl, sym, ap, ◌∙◌}
 use Rattle.std.specs.Prelude.{Option, Some, None, Err}
-use Rattle.blk_front.specs.declared.told.Refusal.TheVariants as refusal
+use Rattle.blk_base.specs.declared.refusal.Refusal.TheVariants as refusal
 use Rattle.line_text.proofs.Both.{both_true}
-use Rattle.blk_base.specs.declared.config.Job.{Job}
+use Rattle.blk_base.specs.declared.config.Submission.{Submission}
 use Rattle.blk_base.specs.declared.ask.FrontAnswer.{FrontAnswer}
 use Rattle.blk_base.specs.declared.moves.Move.{Move}
 use Rattle.blk_base.specs.declared.moves.Move.TheVariants as moves
@@ -151,7 +151,7 @@ shut_unready stage.Closed shut = refl
 shut_unready (stage.Broken word) shut = refl
 shut_unready t shut = absurd (true≢false shut)
 
-pub shut_refuses : (v : View) (job : Job) → is_open v.stage ≡ false → is_of_front (submit_line job (submit_of v job).0) ≡ false
+pub shut_refuses : (v : View) (job : Submission) → is_open v.stage ≡ false → is_of_front (submit_line job (submit_of v job).0) ≡ false
 shut_refuses v job shut = by_test (v.last == 4294967295) v.closing (is_ready v.stage) (shut_unready v.stage shut)
   where
     by_test : (spent closing ready : Bool) → ready ≡ false → is_of_front (submit_line job (if spent then (Err refusal.Spent, v) else (if closing then (Err refusal.Closing, v) else (if not ready then (Err refusal.NotReady, v) else submit_one v (wish_of v.offers job)))).0) ≡ false

@@ -3,7 +3,7 @@ use Rattle.std.proofs.Common.{◌≡◌, ℕ, ◌&&◌, ◌||◌, Bool, true, fa
 use Rattle.std.specs.Prelude.{Option, Some, None, Result, Ok, Err, fold}
 use Rattle.std.specs.List.{AllByRecursion}
 use Rattle.std.proofs.lemmas.List.Sums.{fold-append}
-use Rattle.blk_base.specs.declared.config.Job.{Job}
+use Rattle.blk_base.specs.declared.config.Submission.{Submission}
 use Rattle.blk_base.specs.declared.parts.End.TheVariants as end
 use Rattle.blk_base.specs.declared.ask.BackAsk.{BackAsk}
 use Rattle.blk_base.specs.declared.ask.BackAnswer.{BackAnswer}
@@ -16,13 +16,13 @@ use Rattle.blk_base.specs.declared.moves.Move.TheVariants as moves
 use Rattle.hypervisor.specs.Act.{mover_of, FrontAct, BackAct, Outcome, Took, back_act}
 use Rattle.blk_front.specs.declared.stage.FrontStage.{FrontStage}
 use Rattle.blk_front.specs.declared.state.FrontState.TheVariants as enter
-use Rattle.blk_front.specs.declared.told.Refusal.{Refusal}
+use Rattle.blk_base.specs.declared.refusal.Refusal.{Refusal}
 use Rattle.blk_front.specs.View as front
 use Rattle.blk_front.specs.State.{is_open, may_enter, enters}
 use Rattle.blk_front.specs.Submit.{submit_of}
 use Rattle.blk_front.specs.Suspend.{resumed}
 use Rattle.blk_back.specs.declared.told.BackTold.{BackTold}
-use Rattle.blk_back.specs.declared.told.Halt.{Halt}
+use Rattle.blk_base.specs.declared.halt.Halt.{Halt}
 use Rattle.blk_back.specs.Step as back_step
 use Rattle.xenbus_state.specs.declared.stage.FrontBusStage.{FrontBusStage}
 use Rattle.xenbus_state.specs.declared.stage.FrontBusStage.TheVariants as stage
@@ -232,11 +232,11 @@ record IsOfSubmission (s : FrontSight) (line : Line) : Type 0 where
   none : (let u : FrontSight = after_line s line in u.due) ≡ None
   same : (let u : FrontSight = after_line s line in u.over) ≡ s.over
 
-of_submission : (s : FrontSight) (job : Job) (r : Result ℕ Refusal) → IsOfSubmission s (ring.submit_line job r)
+of_submission : (s : FrontSight) (job : Submission) (r : Result ℕ Refusal) → IsOfSubmission s (ring.submit_line job r)
 of_submission s job (Ok number) = record { whole = refl; read = tt; none = refl; same = refl }
 of_submission s job (Err why) = record { whole = refl; read = tt; none = refl; same = refl }
 
-submit_goes : (s : FrontSight) (w : World) (job : Job) → IsTight w → Holds s w → Goes s w (Submits job)
+submit_goes : (s : FrontSight) (w : World) (job : Submission) → IsTight w → Holds s w → Goes s w (Submits job)
 submit_goes s w job tight holds =
     let x : Result ℕ Refusal × front.View = submit_of w.rings.front job in
     let modest = tight.front in

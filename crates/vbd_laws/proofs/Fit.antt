@@ -6,14 +6,14 @@ use Rattle.std.proofs.Common.{◌≡◌, ℕ, ◌+◌, ◌≤◌, Bool, true, fa
 use Rattle.std.specs.Prelude.{Option, Some, None, IsSome, Result, Err, nat_lt, nat_le, min, ◌==◌}
 use Rattle.std.proofs.lemmas.Bool.Decides.{nat_tests}
 use Rattle.blk_base.specs.Options.{Options}
-use Rattle.blk_base.specs.declared.config.Job.{Job}
+use Rattle.blk_base.specs.declared.config.Submission.{Submission}
 use Rattle.blk_base.specs.declared.parts.End.TheVariants as end
 use Rattle.segment_list.specs.declared.verdict.DiskInfo.{DiskInfo}
 use Rattle.hypervisor.specs.Act.{BackAct, Outcome}
 use Rattle.ring_words.specs.Shape.{Shape, entries_of}
 use Rattle.blk_front.specs.declared.request.Wish.{Wish}
-use Rattle.blk_front.specs.declared.told.Refusal.{Refusal}
-use Rattle.blk_front.specs.declared.told.Refusal.TheVariants as refusal
+use Rattle.blk_base.specs.declared.refusal.Refusal.{Refusal}
+use Rattle.blk_base.specs.declared.refusal.Refusal.TheVariants as refusal
 use Rattle.blk_front.specs.Pool.{taking}
 use Rattle.blk_front.specs.Request.{is_write, named_of, frames_for}
 use Rattle.blk_front.specs.View.{View}
@@ -62,7 +62,7 @@ fit_start config few = record {
   room = omega arith;
   offers = refl;
   limited = few;
-  published = record { barrier = refl; flush = refl; discard = refl; indirect = refl };
+  published = record { sectors = refl; read_only = refl; barrier = refl; flush = refl; discard = refl; indirect = refl };
   said = tt;
   announced = one_announced _;
   reads = tt;
@@ -104,7 +104,7 @@ fit_rings w r fit safe like unported unbound = record {
   room = like.room;
   offers = fit.offers;
   limited = fit.limited;
-  published = subst (λ (i : DiskInfo). IsOffered i w.back.features) (sym like.info) fit.published;
+  published = subst (λ (i : DiskInfo). IsOffered i w.back.features w.back.disk) (sym like.info) fit.published;
   said = said_kept _ _ like.keys.says w.back.stage fit.said;
   announced = announced_kept w.back.features w.back.disk w.rings.under.keys r.under.keys like.keys fit.announced;
   reads = reads_kept (SaysKey w.rings.under.keys w.back.features w.back.disk) _ like.keys.says w.front.stage fit.reads;
@@ -142,16 +142,16 @@ closing_with v wish (Some taken) = refl
 closing_one : (v : View) (wish : Option Wish) → (submit_one v wish).1.closing ≡ v.closing
 closing_one v None = refl
 closing_one v (Some wish) =
-    either_closing (is_write wish.transfer && v.read_only) v.closing _ _ refl
-    (either_closing (nat_lt v.sectors (wish.sector + named_of wish.transfer wish.count)) v.closing _ _ refl
+    either_closing (is_write wish.transfer && v.offers.read_only) v.closing _ _ refl
+    (either_closing (nat_lt v.offers.sectors (wish.sector + named_of wish.transfer wish.count)) v.closing _ _ refl
     (either_closing (nat_lt (most_segments v.offers wish.transfer) (frames_for wish.count)) v.closing _ _ refl
     (either_closing (nat_le (entries_of v.shape.order) (unfinished v)) v.closing _ _ refl (closing_with v wish (taking (frames_taken wish.count) v.pool [])))))
 
-closing_submit : (v : View) (job : Job) → (submit_of v job).1.closing ≡ v.closing
+closing_submit : (v : View) (job : Submission) → (submit_of v job).1.closing ≡ v.closing
 closing_submit v job =
     either_closing (v.last == 4294967295) v.closing _ _ refl (either_closing v.closing v.closing _ _ refl (either_closing (not (is_ready v.stage)) v.closing _ _ refl (closing_one v (wish_of v.offers job))))
 
-through_submit : (v : View) (job : Job) → is_through v ≡ true → is_through (submit_of v job).1 ≡ true
+through_submit : (v : View) (job : Submission) → is_through v ≡ true → is_through (submit_of v job).1 ≡ true
 through_submit v job through = by_test (v.last == 4294967295) v.closing (both_true v.closing (length v.requests == 0) through).0
   where
     by_test : (b c : Bool) → c ≡ true
@@ -220,8 +220,8 @@ room_with v wish (Some taken) most room = let longer = length-append v.requests 
 room_one : (v : View) (wish : Option Wish) (most : ℕ) → unfinished v ≤ most → entries_of v.shape.order ≤ most → unfinished (submit_one v wish).1 ≤ most
 room_one v None most was few = was
 room_one v (Some wish) most was few =
-    either_room (is_write wish.transfer && v.read_only) most _ _ was
-    (either_room (nat_lt v.sectors (wish.sector + named_of wish.transfer wish.count)) most _ _ was
+    either_room (is_write wish.transfer && v.offers.read_only) most _ _ was
+    (either_room (nat_lt v.offers.sectors (wish.sector + named_of wish.transfer wish.count)) most _ _ was
     (either_room (nat_lt (most_segments v.offers wish.transfer) (frames_for wish.count)) most _ _ was (by_test (nat_le (entries_of v.shape.order) (unfinished v)) refl)))
   where
     below : (count entries : ℕ) → nat_le entries count ≡ false → count + 1 ≤ entries
@@ -232,14 +232,14 @@ room_one v (Some wish) most was few =
     by_test true e = was
     by_test false e = let less = below (unfinished v) (entries_of v.shape.order) e in room_with v wish (taking (frames_taken wish.count) v.pool []) most (omega arith)
 
-room_submit : (v : View) (job : Job) (most : ℕ) → unfinished v ≤ most → (is_ready v.stage ≡ true → entries_of v.shape.order ≤ most) → unfinished (submit_of v job).1 ≤ most
+room_submit : (v : View) (job : Submission) (most : ℕ) → unfinished v ≤ most → (is_ready v.stage ≡ true → entries_of v.shape.order ≤ most) → unfinished (submit_of v job).1 ≤ most
 room_submit v job most was few = either_room (v.last == 4294967295) most _ _ was (either_room v.closing most _ _ was (by_test (is_ready v.stage) refl))
   where
     by_test : (b : Bool) → is_ready v.stage ≡ b → unfinished (let x : Result ℕ Refusal × View = (if not b then (Err refusal.NotReady, v) else submit_one v (wish_of v.offers job)) in x.1) ≤ most
     by_test true ready = room_one v (wish_of v.offers job) most was (few ready)
     by_test false ready = was
 
-fit_submit : (w : World) (job : Job) → IsFit w → IsFit (happens w (Submits job))
+fit_submit : (w : World) (job : Submission) → IsFit w → IsFit (happens w (Submits job))
 fit_submit w job fit =
     let few : is_ready w.rings.front.stage ≡ true → entries_of w.rings.front.shape.order ≤ entries_of (min w.front.order 4) =
     λ ready. agreed_entries w.front.order w.front.features.order w.rings.front.shape.order (ready_agreed w.front.stage w.front w.rings.front.stage w.rings.front.shape.order fit.front fit.ordered ready) in

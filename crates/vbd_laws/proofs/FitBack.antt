@@ -93,7 +93,7 @@ fit_back w r u fit safe offers fits shares same unported unbound = record {
   offers = ap (λ (t : Facts). t.0) offers.facts ∙ (fit.offers ∙ sym (ap (λ (t : Facts). offer t.1.read_only t.0.indirect) offers.facts));
   limited = subst (λ (t : Facts). t.0.indirect ≤ 960) (sym offers.facts) fit.limited;
   published =
-      subst (λ (t : Facts). IsOffered r.back.jobs.info t.0) (sym offers.facts) (subst (λ (i : DiskInfo). IsOffered i w.back.features) (sym offers.info) fit.published);
+      subst (λ (t : Facts). IsOffered r.back.jobs.info t.0 t.1) (sym offers.facts) (subst (λ (i : DiskInfo). IsOffered i w.back.features w.back.disk) (sym offers.info) fit.published);
   said = subst (λ (t : Facts). SaidAt (SaysKey r.under.keys t.0 t.1) u.stage) (sym offers.facts) offers.said;
   announced = subst (λ (t : Facts). IsAnnounced (SaysKey r.under.keys t.0 t.1) r.under.keys) (sym offers.facts) offers.announced;
   reads =

@@ -10,7 +10,7 @@ use Rattle.blk_base.specs.declared.ask.BackAnswer.TheVariants as answer
 use Rattle.back_jobs.specs.Jobs.{first_mapping}
 use Rattle.blk_back.specs.declared.stage.BackStage.{BackStage}
 use Rattle.blk_back.specs.declared.stage.BackStage.TheVariants as ring
-use Rattle.blk_back.specs.declared.told.Halt.{Halt}
+use Rattle.blk_base.specs.declared.halt.Halt.{Halt}
 use Rattle.blk_back.specs.View as ends
 use Rattle.blk_back.specs.Ask.{ask_at as ring_ask_at, IsAnswer}
 use Rattle.blk_back.specs.Step.{at as ring_at, bound, unbound, other_pages as ring_other_pages, step_at as ring_step_at, step_of as ring_step_of}

@@ -10,7 +10,7 @@ use Rattle.ring_words.specs.Shape.{Shape, entry_words_of}
 use Rattle.blk_back.specs.declared.stage.Reply.{Reply}
 use Rattle.blk_back.specs.declared.stage.BackStage.{BackStage}
 use Rattle.blk_back.specs.declared.stage.BackStage.TheVariants as ring
-use Rattle.blk_back.specs.declared.told.Halt.{Halt}
+use Rattle.blk_base.specs.declared.halt.Halt.{Halt}
 use Rattle.blk_back.specs.View as ends
 use Rattle.blk_back.specs.Ask.{next_reply, IsAnswer as IsRingAnswer, ask_at as ring_ask_at}
 use Rattle.blk_back.specs.Step as ring_step

@@ -1,4 +1,4 @@
--- An answer leaves the front's layout and order, and one that says no more than that a thing is done leaves the features that it read.
+-- An answer leaves the front's layout and order, and one that says no more than that a thing is done leaves what it read of the back.
 use Rattle.std.proofs.Common.{◌≡◌, ℕ, Bool, true, false, if◌then◌else◌, refl, ◌∙◌}
 use Rattle.std.specs.Prelude.{Option, Some, None, ◌||◌}
 use Rattle.blk_base.specs.declared.ask.FrontAnswer.{FrontAnswer}
@@ -6,6 +6,8 @@ use Rattle.blk_base.specs.declared.ask.FrontAnswer.TheVariants as answer
 use Rattle.blk_front.specs.declared.stage.FrontStage.{FrontStage}
 use Rattle.blk_front.specs.declared.stage.FrontStage.TheVariants as ring
 use Rattle.xenbus_state.specs.declared.keys.BackKey.{BackKey}
+use Rattle.xenbus_state.specs.declared.offer.Features.{Features}
+use Rattle.xenbus_state.specs.declared.offer.DiskFacts.{DiskFacts}
 use Rattle.xenbus_state.specs.declared.stage.FrontBusStage.{FrontBusStage}
 use Rattle.xenbus_state.specs.declared.stage.FrontBusStage.TheVariants as stage
 use Rattle.xenbus_state.specs.declared.table.FrontAction.{FrontAction}
@@ -67,21 +69,27 @@ terms_told v idle x = let told = terms_step v idle x in let last = settled_terms
     settled_terms ask.EndOtherGrants u = terms_step u idle answer.Done
     settled_terms a u = same_terms u
 
--- told that a thing is done
-features_done : (s : FrontBusStage) (v : FrontView) (idle : Bool) → (step_at s v idle answer.Done).features ≡ v.features
-features_done (stage.WriteState s) v idle = refl
-features_done stage.ClosePort v idle = refl
-features_done s v idle = refl
+-- told that a thing is done it has read what it had
+abbrev pub Found : Type 0
+Found = Features × DiskFacts
 
-pub features_told : (v : FrontView) (idle : Bool) → (bus_told idle v answer.Done).features ≡ v.features
-features_told v idle = settled_features (ask_of u idle) u ∙ features_done (due v idle) (at (due v idle) v) idle
+abbrev pub found : FrontView → Found
+found v = (v.features, v.disk)
+
+found_done : (s : FrontBusStage) (v : FrontView) (idle : Bool) → found (step_at s v idle answer.Done) ≡ found v
+found_done (stage.WriteState s) v idle = refl
+found_done stage.ClosePort v idle = refl
+found_done s v idle = refl
+
+pub found_told : (v : FrontView) (idle : Bool) → found (bus_told idle v answer.Done) ≡ found v
+found_told v idle = settled_found (ask_of u idle) u ∙ found_done (due v idle) (at (due v idle) v) idle
   where
     u : FrontView
     u = step_of v idle answer.Done
 
-    settled_features : (a : FrontBusAsk) (u : FrontView) → (settled_at a idle u).features ≡ u.features
-    settled_features ask.EndOtherGrants u = features_done (due u idle) (at (due u idle) u) idle
-    settled_features a u = refl
+    settled_found : (a : FrontBusAsk) (u : FrontView) → found (settled_at a idle u) ≡ found u
+    settled_found ask.EndOtherGrants u = found_done (due u idle) (at (due u idle) u) idle
+    settled_found a u = refl
 
 terms_woken : (broken : Bool) (v : FrontView) (idle : Bool) (x : FrontAnswer) → Terms v (woken broken idle v x)
 terms_woken false v idle (answer.Watched path) = terms_told v idle (answer.Watched path)

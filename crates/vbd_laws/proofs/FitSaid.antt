@@ -264,7 +264,7 @@ all_true true true false d p q r s = r
 all_true true false c d p q r s = q
 all_true false b c d p q r s = p
 
-pub served_said : (d : Directory) (f : Features) (disk : DiskFacts) (info : DiskInfo) → IsOffered info f → f.indirect ≤ 960 → IsServiceSaid (SaysKey d f disk) → says_served (said_by d) info ≡ true
+pub served_said : (d : Directory) (f : Features) (disk : DiskFacts) (info : DiskInfo) → IsOffered info f disk → f.indirect ≤ 960 → IsServiceSaid (SaysKey d f disk) → says_served (said_by d) info ≡ true
 served_said d f disk info is few said =
     all_true _ _ _ _ (offered (key_of d.keys barrier_path) (flag_of f.barrier) f.barrier info.barrier said.barrier (flag_offer f.barrier) is.barrier)
     (offered (key_of d.keys flush_path) (flag_of f.flush) f.flush info.flush said.flush (flag_offer f.flush) is.flush)

@@ -23,7 +23,7 @@ use Rattle.blk_front.specs.State.{is_open, may_enter}
 use Rattle.blk_front.specs.declared.told.Told.{Told}
 use Rattle.blk_front.specs.declared.told.Told.TheVariants as front_told
 use Rattle.back_jobs.specs.Jobs.{ask_job}
-use Rattle.blk_back.specs.declared.told.Halt.{Halt}
+use Rattle.blk_base.specs.declared.halt.Halt.{Halt}
 use Rattle.blk_back.specs.Step as ring_step
 use Rattle.report_rules.proofs.Obeys.{obeys_none, obeys_more}
 use Rattle.xenbus_state.specs.declared.front.FrontNews.{FrontNews}

@@ -5,7 +5,7 @@ use Rattle.std.specs.Option.{option_map}
 use Rattle.blk_base.specs.declared.moves.Move.{Move}
 use Rattle.blk_base.specs.declared.moves.Move.TheVariants as moves
 use Rattle.blk_base.specs.declared.moves.Mover.TheVariants as mover
-use Rattle.schedule_text.specs.declared.line.Halt.{Halt}
+use Rattle.blk_base.specs.declared.halt.Halt.{Halt}
 use Rattle.schedule_text.specs.declared.line.Line.TheVariants as lines
 use Rattle.xenbus_state.specs.declared.keys.FrontKey.{FrontKey}
 use Rattle.xenbus_state.specs.declared.keys.FrontKey.TheVariants as key
@@ -23,7 +23,6 @@ use Rattle.xenbus_state.specs.Reading.{count_read}
 use Rattle.xenbus_state.specs.BackReading.{order_of, layout_read, key_read}
 use Rattle.xenbus_state.specs.BackView.{BackView}
 use Rattle.xenbus_state.specs.BackStep.{at, action_halt, key_halt as read_halts}
-use Rattle.split_model.specs.Shown.{halt_line}
 use Rattle.vbd_back.specs.Step.{ring_halt}
 use Rattle.negotiation_laws.specs.Negotiation.{front_path}
 use Rattle.vbd_laws.specs.Halts.{BackSight, state_halt, is_bad_text, key_halt, due_after, halt_shown, IsWorded}
@@ -32,12 +31,12 @@ use Rattle.vbd_laws.proofs.HaltsKeys.{IsReadKey, read_key}
 -- the halt that a reason shows, and its word
 abbrev pub reason_shown : Option BackHalt → Option Halt
 reason_shown None = None
-reason_shown (Some x) = halt_shown (lines.Halt (halt_line (ring_halt x)))
+reason_shown (Some x) = halt_shown (lines.Halt (ring_halt x))
 
 -- the halt is the one that is due after the move, with its word
 abbrev pub IsWordedReason : (asked : Bool) → Option BackHalt → Type 0
 IsWordedReason asked None = Unit {0}
-IsWordedReason asked (Some x) = IsWorded asked (lines.Halt (halt_line (ring_halt x)))
+IsWordedReason asked (Some x) = IsWorded asked (lines.Halt (ring_halt x))
 
 pub record Due (asked : Bool) (k : BackSight) (shown : Move) (reason : Option BackHalt) : Type 0 where
   pub due : reason_shown reason ≡ due_after k (lines.Move shown)
@@ -63,7 +62,7 @@ four_none : (b : Bool) → state_halt b (Some 4) ≡ None
 four_none true = refl
 four_none false = refl
 
-gone_shown : (b : Bool) (s : BusState) → reason_shown (action_halt (front_gone b s)) ≡ halt_shown (lines.Halt (halt_line (ring_halt (why.Gone s))))
+gone_shown : (b : Bool) (s : BusState) → reason_shown (action_halt (front_gone b s)) ≡ halt_shown (lines.Halt (ring_halt (why.Gone s)))
 gone_shown true s = refl
 gone_shown false s = refl
 

@@ -10,9 +10,9 @@ use Rattle.blk_base.specs.declared.moves.Mover.TheVariants as mover
 use Rattle.schedule_text.specs.declared.line.Line.{Line}
 use Rattle.schedule_text.specs.declared.line.Line.TheVariants as lines
 use Rattle.blk_back.specs.declared.told.BackTold.{BackTold}
-use Rattle.blk_back.specs.declared.told.Halt.{Halt}
+use Rattle.blk_base.specs.declared.halt.Halt.{Halt}
 use Rattle.report_rules.proofs.Obeys.{obeys_more}
-use Rattle.split_model.specs.Shown.{back_lines, halt_line, halt_lines}
+use Rattle.split_model.specs.Shown.{back_lines, halt_lines}
 use Rattle.split_model.proofs.Showing.{IsTold, IsOfBack, back_told_is}
 use Rattle.vbd_laws.specs.Halts.{BackSight, new_back, due_after, told, after, from, said_by, halt_shown, is_work, HaltsHere, IsHaltAt, HaltsByCauses, IsWorded}
 use Rattle.vbd_laws.proofs.HaltsRing.{ring_shown, IsWordedHalt}
@@ -119,7 +119,7 @@ ends asked k t x None None runs halts over =
     }
 ends asked k t x None (Some y) runs halts over =
     let is = runs refl in
-    subst (λ (u : Option BackTold). Ends asked k None (Some y) (back_lines u x ++ lines.Halt (halt_line y) ∷ [])) (sym (is.2 refl))
+    subst (λ (u : Option BackTold). Ends asked k None (Some y) (back_lines u x ++ lines.Halt y ∷ [])) (sym (is.2 refl))
     (record { follows = (record { halts = is.0; rests = λ halted. refl }, is.1, tt); over = k.over; known = refl })
 ends asked k t x (Some g) new runs halts over =
     let is = over refl in

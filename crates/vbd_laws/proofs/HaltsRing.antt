@@ -17,30 +17,28 @@ use Rattle.grant_table.specs.Table.{verdict_at, next_mapping}
 use Rattle.event_channel.specs.declared.channels.PortState.{PortState}
 use Rattle.event_channel.specs.declared.channels.PortState.TheVariants as port
 use Rattle.event_channel.specs.Channels.{state_of}
-use Rattle.schedule_text.specs.declared.line.Halt.{Halt as HaltLine}
+use Rattle.blk_base.specs.declared.halt.Halt.{Halt}
 use Rattle.schedule_text.specs.declared.line.Line.TheVariants as lines
 use Rattle.hypervisor.specs.Hypervisor.{Hypervisor}
 use Rattle.hypervisor.specs.Act.{BackAct, Outcome, Took, back_act, map_act, bind_act}
 use Rattle.blk_back.specs.declared.stage.BackStage.{BackStage}
 use Rattle.blk_back.specs.declared.stage.BackStage.TheVariants as stage
 use Rattle.blk_back.specs.declared.stage.Reply.{Reply}
-use Rattle.blk_back.specs.declared.told.Halt.{Halt}
 use Rattle.blk_back.specs.View.{View}
 use Rattle.blk_back.specs.Ask.{ask_at, loop_ask, index_ask, entry_ask, next_reply, next_gref, unmap_ask}
 use Rattle.blk_back.specs.Step.{looked, overrun, fetched, loop_word, loop_step, step_at}
-use Rattle.split_model.specs.Shown.{halt_line}
 use Rattle.split_model.proofs.Acting.{back_acts, BackMap, BackMapRefused, BackBind, BackBindRefused, BackGet, BackSet, BackRead, BackWrite, DiskGives, ReadFails, DiskTakes, WriteFails, DiskFlushes, FlushFails, DiskTrims, TrimFails}
 use Rattle.split_model.proofs.SafeActs.{of_back, back_wait}
 use Rattle.vbd_laws.specs.Halts.{BackSight, due_after, told, halt_shown, is_work, IsWorded}
 
 -- the halt that the end of the ring comes to, as a line shows it, and its word
-abbrev pub ring_shown : Option Halt → Option HaltLine
+abbrev pub ring_shown : Option Halt → Option Halt
 ring_shown None = None
-ring_shown (Some x) = halt_shown (lines.Halt (halt_line x))
+ring_shown (Some x) = halt_shown (lines.Halt x)
 
 abbrev pub IsWordedHalt : (asked : Bool) → Option Halt → Type 0
 IsWordedHalt asked None = Unit {0}
-IsWordedHalt asked (Some x) = IsWorded asked (lines.Halt (halt_line x))
+IsWordedHalt asked (Some x) = IsWorded asked (lines.Halt x)
 
 -- it halts where that is due after the move, and tells nothing else then
 pub record Halts (asked : Bool) (k : BackSight) (shown : Move) (y : View) : Type 0 where

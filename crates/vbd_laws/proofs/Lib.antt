@@ -36,6 +36,7 @@ pub mod NegotiatedWay
 pub mod NegotiatedMaps
 pub mod ServedBack
 pub mod Offered
+pub mod ServedSectors
 pub mod ServedPossible
 pub mod ServedPort
 pub mod ServedGone

@@ -18,7 +18,7 @@ use Rattle.key_directory.specs.Directory.{Directory, written}
 use Rattle.hypervisor.specs.Hypervisor.{Hypervisor}
 use Rattle.hypervisor.specs.Act.{BackAct, Took, back_act, back_watched, watch_next, with_keys}
 use Rattle.blk_back.specs.declared.stage.BackStage.{BackStage}
-use Rattle.blk_back.specs.declared.told.Halt.{Halt}
+use Rattle.blk_base.specs.declared.halt.Halt.{Halt}
 use Rattle.blk_back.specs.View as back_ends
 use Rattle.blk_back.specs.Ask as back_ring
 use Rattle.line_text.proofs.Both.{both_true}

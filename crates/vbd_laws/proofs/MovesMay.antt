@@ -47,11 +47,11 @@ back_key_may h attached (back_bus.SetKey key value) = tt
 back_key_may h attached a = tt
 
 abbrev BackMays : World → List ring.Happening → BackAsk → (BackAnswer → back_view.View) → Type 0
-BackMays w does ask step = Names (hands_of w.rings.back) ask → BackMay w.rings.under (Some w.rings.front.sectors) ask
+BackMays w does ask step = Names (hands_of w.rings.back) ask → BackMay w.rings.under (Some w.rings.back.jobs.info.sectors) ask
 
 pub back_asks_may : (w : World) → IsFit w → Names (hands_of w.rings.back) (back.ask_of (backend_of w)) → w.rings.under.grants.made + 1 < 2 ^ 64 → length (hands_of w.rings.back) ≤ 529
-    → BackMay w.rings.under (Some w.rings.front.sectors) (back.ask_of (backend_of w))
+    → BackMay w.rings.under (Some w.rings.back.jobs.info.sectors) (back.ask_of (backend_of w))
 back_asks_may w fit names made few =
-    back_cases (BackMays w) w (λ says unattached named. back_key_may w.rings.under (Some w.rings.front.sectors) (back_asks w))
-    (λ says attached named. back_key_may w.rings.under (Some w.rings.front.sectors) (back_asks w))
-    (λ quiet moves named. back_may w.rings.under (Some w.rings.front.sectors) (hands_of w.rings.back) w.rings.back fit.safe.held named made few) (λ quiet still named. tt) names
+    back_cases (BackMays w) w (λ says unattached named. back_key_may w.rings.under (Some w.rings.back.jobs.info.sectors) (back_asks w))
+    (λ says attached named. back_key_may w.rings.under (Some w.rings.back.jobs.info.sectors) (back_asks w))
+    (λ quiet moves named. back_may w.rings.under (Some w.rings.back.jobs.info.sectors) (hands_of w.rings.back) w.rings.back fit.safe.held named made few) (λ quiet still named. tt) names

@@ -50,22 +50,22 @@ begun_now v idle =
     due_cases (λ (d : FrontBusStage). begins (ask_at d v) ≡ true → is_begun v.stage ≡ true) v idle (begun_at v.stage v)
     (λ here closing is_idle e. absurd (true≢false (sym e ∙ closing_begins v.state v)))
 
--- a front that connects has read all that its back offers
+-- a front that connects has read all that its back offers, and the disk that it publishes
 abbrev connects : FrontBusStage → Bool
 connects (stage.WriteState state.Connected) = true
 connects s = false
 
-read_all : (s : FrontBusStage) (own : BusState) (r f : Features) (e d : DiskFacts) → connects s ≡ true → FrontRead s own r f e d → r ≡ f
-read_all (stage.WriteState state.Connected) own r f e d is read = read.0
+read_all : (s : FrontBusStage) (own : BusState) (r f : Features) (e d : DiskFacts) → connects s ≡ true → FrontRead s own r f e d → (r ≡ f) × (e ≡ d)
+read_all (stage.WriteState state.Connected) own r f e d is read = read
 read_all s own r f e d is read = absurd (true≢false (sym is))
 
 abbrev HasOffer : Negotiation → Type 0
-HasOffer n = connects n.front.stage ≡ true → n.front.features ≡ n.back.features
+HasOffer n = connects n.front.stage ≡ true → (n.front.features ≡ n.back.features) × (n.front.disk ≡ n.back.disk)
 
 offer_read : (n : Negotiation) → Reached n → HasOffer n
 offer_read n j =
     let h = run_holds j.run in
-    subst HasOffer j.stands (λ is. read_all _ _ _ _ _ _ is h.front.read ∙ sym h.back.offer)
+    subst HasOffer j.stands (λ is. let all = read_all _ _ _ _ _ _ is h.front.read in (all.0 ∙ sym h.back.offer, all.1 ∙ sym h.back.disk))
 
 leaving_writes : (gone : Bool) (port : Option ℕ) (own : BusState) → leaving gone port ≡ stage.WriteState own → 5 ≤ state_number own
 leaving_writes false port own e = absurd (cc)
@@ -76,13 +76,13 @@ closing_writes : (s : BusState) (v : FrontView) (own : BusState) → closing_sta
 closing_writes state.Closing v own e = leaving_writes v.gone v.port own e
 closing_writes s v own e = let same : state.Closing ≡ own = cc in subst (λ (s : BusState). 5 ≤ state_number s) same (omega arith)
 
--- so one that connects knows what its back serves
+-- so one that connects knows what its back serves, and its disk
 connecting : (v : FrontView) (idle : Bool) → due v idle ≡ stage.WriteState state.Connected → v.stage ≡ stage.WriteState state.Connected
 connecting v idle =
     due_cases (λ (d : FrontBusStage). d ≡ stage.WriteState state.Connected → v.stage ≡ stage.WriteState state.Connected) v idle (λ e. e)
     (λ here closing is_idle e. absurd (let late = closing_writes v.state v state.Connected e in omega arith))
 
-pub connects_knowing : (n : Negotiation) (idle : Bool) → Reached n → due n.front idle ≡ stage.WriteState state.Connected → n.front.features ≡ n.back.features
+pub connects_knowing : (n : Negotiation) (idle : Bool) → Reached n → due n.front idle ≡ stage.WriteState state.Connected → (n.front.features ≡ n.back.features) × (n.front.disk ≡ n.back.disk)
 connects_knowing n idle j e = offer_read n j (ap connects (connecting n.front idle e))
 
 -- a state that the end of the ring enters leaves its order, but for another order that is agreed

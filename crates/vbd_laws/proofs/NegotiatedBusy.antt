@@ -3,7 +3,7 @@ use Rattle.std.proofs.Common.{◌⊎◌, inl, inr, ◌≡◌, ◌≢◌, ◌∙�
 use Rattle.std.specs.Prelude.{Option, Some, None, Result, Err}
 use Rattle.std.proofs.lemmas.Bool.Decides.{nat_tests}
 use Rattle.blk_base.specs.Options.{Options}
-use Rattle.blk_base.specs.declared.config.Job.{Job}
+use Rattle.blk_base.specs.declared.config.Submission.{Submission}
 use Rattle.blk_base.specs.declared.parts.End.TheVariants as end
 use Rattle.blk_base.specs.declared.ask.FrontAnswer.{FrontAnswer}
 use Rattle.key_directory.specs.Watches.{Watches}
@@ -13,8 +13,8 @@ use Rattle.blk_front.specs.declared.stage.FrontStage.TheVariants as ring_stage
 use Rattle.blk_front.specs.declared.request.Request.{Request}
 use Rattle.blk_front.specs.declared.state.FrontState.{FrontState}
 use Rattle.blk_front.specs.declared.state.FrontState.TheVariants as entered
-use Rattle.blk_front.specs.declared.told.Refusal.{Refusal}
-use Rattle.blk_front.specs.declared.told.Refusal.TheVariants as refusal
+use Rattle.blk_base.specs.declared.refusal.Refusal.{Refusal}
+use Rattle.blk_base.specs.declared.refusal.Refusal.TheVariants as refusal
 use Rattle.blk_front.specs.State.{in_state, enters, is_open}
 use Rattle.blk_front.specs.Submit.{is_ready, ending_of, wish_of, submit_one, submit_of}
 use Rattle.blk_front.specs.View as ring
@@ -150,7 +150,7 @@ back_moves_heard w fit given known = by_act (back_turn w) refl
         subst HasHeard (sym moved.world) (λ some. back_keeps IsHeard back_heard w a fit (known some) e is.0 is.1)
 
 -- a request is taken by a ready front alone, whose negotiation has written Connected
-submit_requests : (v : ring.View) (job : Job) → (let u : Result ℕ Refusal × ring.View = submit_of v job in u.1.requests ≡ v.requests) ⊎ (is_ready v.stage ≡ true)
+submit_requests : (v : ring.View) (job : Submission) → (let u : Result ℕ Refusal × ring.View = submit_of v job in u.1.requests ≡ v.requests) ⊎ (is_ready v.stage ≡ true)
 submit_requests v job = by_test (v.last == 4294967295) v.closing (is_ready v.stage) refl
   where
     by_test : (spent closing ready : Bool) → is_ready v.stage ≡ ready
@@ -175,7 +175,7 @@ ready_heard stage.Rest v r b w (inl fits) ready = ready_rests v.state v.gone v.p
 ready_heard stage.Rest v r b w (inr broken) ready = ready_whole r ready broken
 ready_heard s v r b w fits ready = tt
 
-submits_heard : (w : World) (job : Job) → IsFit w → HasHeard w → HasHeard (happens w (Submits job))
+submits_heard : (w : World) (job : Submission) → IsFit w → HasHeard w → HasHeard (happens w (Submits job))
 submits_heard w job fit known some = by_kept (submit_requests w.rings.front job)
   where
     by_kept : (let u : Result ℕ Refusal × ring.View = submit_of w.rings.front job in u.1.requests ≡ w.rings.front.requests) ⊎ (is_ready w.rings.front.stage ≡ true) → IsHeard (negotiation_of w)

@@ -21,6 +21,7 @@ use Rattle.xenbus_state.specs.declared.stage.FrontBusStage.TheVariants as bus
 use Rattle.xenbus_state.specs.declared.stage.BackBusStage.{BackBusStage}
 use Rattle.xenbus_state.specs.declared.stage.BackBusStage.TheVariants as back_bus
 use Rattle.xenbus_state.specs.declared.offer.Features.{Features}
+use Rattle.xenbus_state.specs.declared.offer.DiskFacts.{DiskFacts}
 use Rattle.xenbus_state.specs.declared.front.FrontBusAsk.{FrontBusAsk}
 use Rattle.xenbus_state.specs.declared.front.FrontBusAsk.TheVariants as front_ask
 use Rattle.xenbus_state.specs.declared.front.FrontNews.{FrontNews}
@@ -41,7 +42,7 @@ use Rattle.vbd_front.specs.Step as front_step
 use Rattle.vbd_model.specs.World.{World, frontend_of}
 use Rattle.vbd_model.specs.Happening.{front_turn}
 use Rattle.vbd_model.specs.Fit.{IsEndingPage, FrontRests, FrontGoesWith, IsFit}
-use Rattle.vbd_laws.proofs.FitFrontTerms.{features_told}
+use Rattle.vbd_laws.proofs.FitFrontTerms.{Found, found_told}
 use Rattle.vbd_laws.proofs.FitFront.{asks_cases}
 use Rattle.vbd_laws.proofs.ServedFront.{IsNewsAt, news_is}
 use Rattle.vbd_laws.proofs.NegotiatedRun.{Reached, Joined, negotiation_of, breaks_at, leaves_at}
@@ -150,14 +151,14 @@ made_now w gref fit j asks =
     let port = subst (λ (n : Negotiation). n.front.port ≡ Some n.back.terms.port) j.stands maps.port in
     port_connected w.front.stage w.front w.rings.front.stage fit.front (subst (λ (p : Option ℕ). IsSome p) (sym port) refl)
 
--- what the front takes a back of these features to serve
-abbrev pub offered : Features → Offers
-offered f = record { barrier = f.barrier; flush = f.flush; discard = f.discard; indirect = f.indirect }
+-- what the front takes a back of these features and this disk to serve
+abbrev pub offered : Found → Offers
+offered t = record { sectors = t.1.sectors; read_only = t.1.read_only; barrier = t.0.barrier; flush = t.0.flush; discard = t.0.discard; indirect = t.0.indirect }
 
 -- when the front's end of the ring enters a state: it is connected to a connected back, whose offers it knows, and leaves and is closed after the back; it is never broken
 abbrev pub IsTimely : World → FrontState → Type 0
 IsTimely w (entered.Agreed order) = Unit {0}
-IsTimely w (entered.Connected offers) = (bus_connected w.back.state ≡ true) × (offers ≡ offered w.back.features)
+IsTimely w (entered.Connected offers) = (bus_connected w.back.state ≡ true) × (offers ≡ offered (w.back.features, w.back.disk))
 IsTimely w entered.Closing = Unit {0}
 IsTimely w entered.Leaving = IsHalted w.back
 IsTimely w entered.Closed = IsHalted w.back
@@ -197,11 +198,12 @@ module _ (w : World) (a : FrontAct) (fit : IsFit w) (whole : front_view.is_broke
   abbrev after : FrontView
   after = front_step.bus_after (frontend_of w) a.answer
 
-  knows : front_asks.due w.front idle ≡ bus.WriteState state.Connected → front_step.offers_of after ≡ offered w.back.features
+  knows : front_asks.due w.front idle ≡ bus.WriteState state.Connected → front_step.offers_of after ≡ offered (w.back.features, w.back.disk)
   knows here =
       let done : a.answer ≡ answer.Done = told.answer ∙ ap (λ (s : FrontBusStage). front_answered (front_asks.ask_at s w.front) 0 w.rings.under.keys) here in
+      let known = connects_knowing (negotiation_of w) idle j here in
       ap (λ (x : FrontAnswer). front_step.offers_of (front_step.bus_after (frontend_of w) x)) done
-      ∙ ap offered (features_told w.front idle ∙ connects_knowing (negotiation_of w) idle j here)
+      ∙ ap offered (found_told w.front idle ∙ (ap (λ (f : Features). (f, w.front.disk)) known.0 ∙ ap (λ (d : DiskFacts). (w.back.features, d)) known.1))
 
   news_timely : (n : Option FrontNews) → news_of w.front idle a.answer ≡ n → IsNewsAt (front_asks.due w.front idle) n → AllByRecursion (IsTimely w) (front_step.states_of_news (front_step.offers_of after) n)
   news_timely None e is = tt

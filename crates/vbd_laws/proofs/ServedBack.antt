@@ -26,7 +26,7 @@ use Rattle.xenbus_state.specs.declared.table.BackHalt.{BackHalt}
 use Rattle.xenbus_state.specs.declared.table.BackHalt.TheVariants as bus_halt
 use Rattle.xenbus_state.specs.States.{state_read, state_number}
 use Rattle.xenbus_state.specs.Keys.{front_name}
-use Rattle.xenbus_state.specs.Numbers.{is_digit, number_after, number_in, number_of}
+use Rattle.xenbus_state.specs.Numbers.{is_digit, number_after, number_in, number_of, long_of}
 use Rattle.xenbus_state.specs.Tables.{back_action, is_connected, bad_order, front_gone}
 use Rattle.xenbus_state.specs.Programs.{next_feature, next_fact, after_page}
 use Rattle.xenbus_state.specs.Reading.{count_read}
@@ -118,6 +118,9 @@ in_small most limit m text e = by_test (nat_lt 0 (length text) && nat_le (length
 
 number_small : (m : ℕ) (text : List ℕ) → number_of text ≡ Some m → m < 2 ^ 32
 number_small m text e = let few = in_small 10 4294967295 m text e in omega arith
+
+pub long_small : (m : ℕ) (text : List ℕ) → long_of text ≡ Some m → m < 2 ^ 64
+long_small m text e = let few = in_small 20 18446744073709551615 m text e in omega arith
 
 with_gref_small : (gref : ℕ) (grefs : List ℕ) → gref < 2 ^ 32 → AllByRecursion (λ (g : ℕ). g < 2 ^ 32) grefs → AllByRecursion (λ (g : ℕ). g < 2 ^ 32) (grefs ++ gref ∷ [])
 with_gref_small gref [] low are = (low, tt)

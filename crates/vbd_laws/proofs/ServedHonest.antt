@@ -59,7 +59,6 @@ use Rattle.xenbus_state.specs.BackAsk.{says_closing}
 use Rattle.xenbus_state.specs.BackStep as bus_step
 use Rattle.split_model.specs.World as rings
 use Rattle.split_model.specs.Honest.{honest_history}
-use Rattle.split_model.specs.Shown.{halt_line}
 use Rattle.split_model.specs.Happening as ring_happening
 use Rattle.split_model.specs.Happening.{back_after}
 use Rattle.split_model.proofs.SafeAnswers.{back_answered}
@@ -235,6 +234,8 @@ moves_made config w fit standing j moves halted = by_kind (made_or_making b w.ri
 enters_when : (w : World) (v : rings.World) (n : ℕ) → IsFit w → v.back ≡ w.rings.back → v.front.shape.order ≡ n → (s : FrontState) → IsTimely w s → IsWord n s → MayEnter v s
 enters_when w v n fit same own (entered.Agreed order) timely is = is ∙ sym own
 enters_when w v n fit same own (entered.Connected offers) timely is = record {
+  sectors = ap (λ (o : Offers). o.sectors) timely.1 ∙ (sym fit.published.sectors ∙ sym (ap (λ (b : ring_view.View). b.jobs.info.sectors) same));
+  read_only = ap (λ (o : Offers). o.read_only) timely.1 ∙ (sym fit.published.read_only ∙ sym (ap (λ (b : ring_view.View). b.jobs.info.read_only) same));
   barrier = ap (λ (o : Offers). o.barrier) timely.1 ∙ (sym fit.published.barrier ∙ sym (ap (λ (b : ring_view.View). b.jobs.info.barrier) same));
   flush = ap (λ (o : Offers). o.flush) timely.1 ∙ (sym fit.published.flush ∙ sym (ap (λ (b : ring_view.View). b.jobs.info.flush) same));
   discard = ap (λ (o : Offers). o.discard) timely.1 ∙ (sym fit.published.discard ∙ sym (ap (λ (b : ring_view.View). b.jobs.info.discard) same));
@@ -330,7 +331,7 @@ low_halt v x r why e fits = by_test (says_closing v) e
     by_test true e = absurd (none-some why e)
     by_test false e = low_at v.stage v x r why e fits
 
-farewell_line : (unplugged : Bool) → is_farewell (halt_line (back_step.ring_halt (gone_halt unplugged state.Closing))) ≡ true
+farewell_line : (unplugged : Bool) → is_farewell (back_step.ring_halt (gone_halt unplugged state.Closing)) ≡ true
 farewell_line true = refl
 farewell_line false = refl
 
@@ -350,7 +351,7 @@ module _ (config : Options) (w : World) (honest : Honest config w) (going : Goin
       let late = late_leaves (negotiation_of w) going.joined in
       let low = low_halt w.back a.answer w.rings.back.stage why e fit.back in
       record {
-        gone = ap (λ (y : BackHalt). is_farewell (halt_line (back_step.ring_halt y))) gone.1 ∙ farewell_line w.back.unplugged;
+        gone = ap (λ (y : BackHalt). is_farewell (back_step.ring_halt y)) gone.1 ∙ farewell_line w.back.unplugged;
         through = subst (λ (f : front_ends.View). is_through f ≡ true) (sym same) (fit.through gone.0 whole);
         free = subst (λ (f : front_ends.View). is_free f.stage ≡ true) (sym same) (closing_free w.front.stage w.front w.rings.front.stage (state_number w.back.state) fit.front gone.0 whole late.0 late.1 low);
         said = halt_said why (subst IsRead e (halt_read w.back a.answer (key_given w.rings.under (back_asks w) a turn) honest.stands.back));

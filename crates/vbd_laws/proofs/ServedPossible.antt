@@ -41,6 +41,7 @@ use Rattle.vbd_laws.proofs.ServedFront as fronts
 use Rattle.vbd_laws.proofs.ServedFront.{IsNewsAt, news_is, front_speaks, front_spelled, closed_speaks, suspended_speaks}
 use Rattle.vbd_laws.proofs.ServedBack as backs
 use Rattle.vbd_laws.proofs.ServedBack.{IsRead, halt_read, halt_said, back_speaks, back_spelled, terms_said, unplugged_speaks, renewed_speaks}
+use Rattle.vbd_laws.proofs.ServedSectors.{IsSized, told_sized, moved_sized, closed_sized, suspended_sized}
 use Rattle.vbd_laws.proofs.NegotiatedRun.{Joined}
 use Rattle.vbd_laws.proofs.NegotiatedAgreed.{IsSame, begins, keeps_order}
 use Rattle.vbd_laws.proofs.NegotiatedEarly.{IsOnItsWay}
@@ -50,6 +51,7 @@ use Rattle.vbd_laws.proofs.NegotiatedWay.{key_given}
 pub record Stands (w : World) : Type 0 where
   pub fit : IsFit w
   pub front : fronts.Speaks w.front
+  pub sized : IsSized w.front
   pub back : backs.Speaks w.back
 
 -- each of them one after the other
@@ -57,16 +59,17 @@ both_possible : (hs rest : List ring_happening.Happening) (w : rings.World) → 
 both_possible [] rest w are later = later
 both_possible (h ∷ hs) rest w are later = (are.0, both_possible hs rest (ring_happening.happens w h) are.1 later)
 
--- a state that breaks the front is a word, and an order that is agreed is this one
+-- a state that breaks the front is a word, an order that is agreed is this one, and the disk's sectors have numbers of 64 bits
 abbrev pub IsWord : ℕ → FrontState → Type 0
 IsWord n (enter.Agreed order) = order ≡ n
+IsWord n (enter.Connected offers) = offers.sectors < 2 ^ 64
 IsWord n (enter.Broken word) = word < 2 ^ 32
 IsWord n s = Unit {0}
 
 stated_is : (n : ℕ) (s : FrontState) (w : rings.World) → w.front.shape.order ≡ n → IsWord n s → ring_allowed.IsStated w s
 stated_is n (enter.Agreed order) w own is = is ∙ sym own
 stated_is n (enter.Broken word) w own is = is
-stated_is n (enter.Connected offers) w own is = tt
+stated_is n (enter.Connected offers) w own is = is
 stated_is n enter.Closing w own is = tt
 stated_is n enter.Leaving w own is = tt
 stated_is n enter.Closed w own is = tt
@@ -88,20 +91,20 @@ due_words n (front_ask.WriteRingWord word) order agrees = (agrees refl, tt)
 due_words n (front_ask.EndGrant page) order agrees = (tt, tt)
 due_words n b order agrees = tt
 
-news_words : (n : ℕ) (s : FrontBusStage) (offers : Offers) (news_of : Option FrontNews) (b : FrontBusAsk) (order : ℕ) → IsNewsAt s news_of → (begins b ≡ true → order ≡ n)
+news_words : (n : ℕ) (s : FrontBusStage) (offers : Offers) (news_of : Option FrontNews) (b : FrontBusAsk) (order : ℕ) → offers.sectors < 2 ^ 64 → IsNewsAt s news_of → (begins b ≡ true → order ≡ n)
     → AllByRecursion (IsWord n) (front_step.states_entered offers news_of b order)
-news_words n s offers None b order is agrees = due_words n b order agrees
-news_words n s offers (Some news.Ready) b order is agrees = (tt, due_words n b order agrees)
-news_words n s offers (Some news.Closing) b order is agrees = (tt, due_words n b order agrees)
-news_words n s offers (Some news.Closed) b order is agrees = (tt, due_words n b order agrees)
-news_words n s offers (Some (news.Broken word)) b order is agrees = (is, due_words n b order agrees)
+news_words n s offers None b order sized is agrees = due_words n b order agrees
+news_words n s offers (Some news.Ready) b order sized is agrees = (sized, due_words n b order agrees)
+news_words n s offers (Some news.Closing) b order sized is agrees = (tt, due_words n b order agrees)
+news_words n s offers (Some news.Closed) b order sized is agrees = (tt, due_words n b order agrees)
+news_words n s offers (Some (news.Broken word)) b order sized is agrees = (is, due_words n b order agrees)
 
 pub entered_words : (w : World) (act : Option FrontAct) → Stands w → front_turn w ≡ act → front.speaks (front_asks w) ≡ true → AllByRecursion (IsWord w.rings.front.shape.order) (entered_at w act)
 entered_words w None stands turn says = tt
 entered_words w (Some a) stands turn says =
     let idle : Bool = front_view.is_unoccupied w.rings.front in
     news_words w.rings.front.shape.order (due w.front idle) (front_step.offers_of (front_step.bus_after (frontend_of w) a.answer)) (front_step.news_of (frontend_of w) a.answer) (ask_of (front_step.bus_after (frontend_of w) a.answer) idle)
-    (ring_order (front_step.bus_after (frontend_of w) a.answer)) (news_is w.front idle a.answer) (agreed_offered w a stands.fit stands.front.order turn says)
+    (ring_order (front_step.bus_after (frontend_of w) a.answer)) (told_sized w.front idle a.answer stands.sized) (news_is w.front idle a.answer) (agreed_offered w a stands.fit stands.front.order turn says)
 
 front_possible : (w : World) → Stands w → ring_allowed.ArePossible (front_does w) w.rings
 front_possible w stands =
@@ -170,6 +173,17 @@ front_stands w (Closes end.Back) stands = stands.front
 front_stands w Suspends stands = suspended_front (rings.may_suspend w.rings && is_open w.rings.front.stage) w stands
 front_stands w h stands = stands.front
 
+sized_suspended : (b : Bool) (w : World) → Stands w → IsSized (if b then suspended w.front else w.front)
+sized_suspended true w stands = suspended_sized w.front stands.sized
+sized_suspended false w stands = stands.sized
+
+sized_stands : (w : World) (h : Happening) → Stands w → (let v : World = happens w h in IsSized v.front)
+sized_stands w FrontMoves stands = moved_sized w (front_turn w) stands.sized
+sized_stands w (Closes end.Front) stands = closed_sized w.front stands.sized
+sized_stands w (Closes end.Back) stands = stands.sized
+sized_stands w Suspends stands = sized_suspended (rings.may_suspend w.rings && is_open w.rings.front.stage) w stands
+sized_stands w h stands = stands.sized
+
 back_stands : (w : World) (h : Happening) → Stands w → (let v : World = happens w h in backs.Speaks v.back)
 back_stands w BackMoves stands = back_speaks w stands.back
 back_stands w (Closes end.Front) stands = stands.back
@@ -178,7 +192,7 @@ back_stands w Suspends stands = suspended_back (rings.may_suspend w.rings) w sta
 back_stands w h stands = stands.back
 
 pub stands_on : (w : World) (h : Happening) → Stands w → Stands (happens w h)
-stands_on w h stands = record { fit = fit_happens w h stands.fit; front = front_stands w h stands; back = back_stands w h stands }
+stands_on w h stands = record { fit = fit_happens w h stands.fit; front = front_stands w h stands; sized = sized_stands w h stands; back = back_stands w h stands }
 
 pub all_possible : (hs : List Happening) (w : World) → Stands w → ArePossible hs w → ring_allowed.ArePossible (all_does hs w) w.rings
 all_possible [] w stands are = tt
@@ -205,5 +219,6 @@ pub stands_start : (config : Options) → AreOptions config → Stands (start_of
 stands_start config are = record {
   fit = fit_start config are.2;
   front = record { order = are.0; port = tt; stage = tt };
+  sized = omega arith;
   back = record { sectors = are.4; order = omega arith; grefs = tt; port = omega arith; stage = tt };
 }

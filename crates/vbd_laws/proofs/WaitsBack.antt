@@ -21,7 +21,7 @@ use Rattle.xenbus_state.specs.BackStep.{step_of}
 use Rattle.line_text.proofs.Both.{both_true}
 use Rattle.split_model.specs.World as rings
 use Rattle.split_model.specs.Happening as ring
-use Rattle.blk_back.specs.declared.told.Halt.TheVariants as halt
+use Rattle.blk_base.specs.declared.halt.Halt.TheVariants as halt
 use Rattle.split_model.proofs.SafeActs.{of_back, back_event}
 use Rattle.split_model.proofs.Suspending.{begun_back, back_cases as new_back_cases}
 use Rattle.split_model.proofs.SafeAnswers.{back_answered}

@@ -9,7 +9,7 @@ use Rattle.blk_base.specs.declared.ask.BackAnswer.{BackAnswer}
 use Rattle.blk_base.specs.declared.ask.BackAnswer.TheVariants as answer
 use Rattle.blk_base.specs.declared.moves.BackMover.TheVariants as back_mover
 use Rattle.hypervisor.specs.Act.{FrontAct, BackAct, Took, back_act}
-use Rattle.blk_back.specs.declared.told.Halt.{Halt}
+use Rattle.blk_base.specs.declared.halt.Halt.{Halt}
 use Rattle.blk_back.specs.View as ends
 use Rattle.blk_back.specs.Ask as back_ring
 use Rattle.blk_back.specs.Step as ring_step

@@ -13,7 +13,7 @@ use Rattle.back_jobs.specs.Jobs.{first_mapping}
 use Rattle.blk_back.specs.declared.stage.Reply.{Reply}
 use Rattle.blk_back.specs.declared.stage.BackStage.{BackStage}
 use Rattle.blk_back.specs.declared.stage.BackStage.TheVariants as stage
-use Rattle.blk_back.specs.declared.told.Halt.{Halt}
+use Rattle.blk_base.specs.declared.halt.Halt.{Halt}
 use Rattle.blk_back.specs.View.{View, page_of}
 use Rattle.blk_back.specs.Ask.{ask_at, loop_ask, index_ask, entry_ask, next_reply, is_led, IsAnswer}
 use Rattle.blk_back.specs.Step.{unmapping_next, unbound, bound, other_pages, overrun, looked, loop_word, loop_step, fetched, may_attach, attached, attaches, halts, step_at, step_of}

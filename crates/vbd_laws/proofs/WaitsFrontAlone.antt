@@ -3,7 +3,7 @@ use Rattle.std.proofs.Common.{◌⊎◌, inl, inr, ◌≡◌, ◌∙◌, ap, sym
 use Rattle.std.proofs.Common.{◌||◌, not}
 use Rattle.std.specs.Prelude.{Option, Some, None, Err, ◌==◌}
 use Rattle.line_text.proofs.Both.{both_true}
-use Rattle.blk_base.specs.declared.config.Job.{Job}
+use Rattle.blk_base.specs.declared.config.Submission.{Submission}
 use Rattle.blk_base.specs.declared.parts.End.TheVariants as end
 use Rattle.blk_base.specs.declared.ask.FrontAsk.{FrontAsk}
 use Rattle.blk_base.specs.declared.ask.FrontAsk.TheVariants as front_ask
@@ -17,7 +17,7 @@ use Rattle.blk_front.specs.Ask as front_ring
 use Rattle.blk_front.specs.State.{is_open, may_enter, enters}
 use Rattle.blk_front.specs.Suspend.{resumed}
 use Rattle.blk_front.specs.Submit.{is_ready, submit_one, submit_of, wish_of}
-use Rattle.blk_front.specs.declared.told.Refusal.TheVariants as refusal
+use Rattle.blk_base.specs.declared.refusal.Refusal.TheVariants as refusal
 use Rattle.xenbus_state.specs.declared.state.BusState.{BusState}
 use Rattle.xenbus_state.specs.declared.state.BusState.TheVariants as state
 use Rattle.xenbus_state.specs.declared.stage.FrontBusStage.{FrontBusStage}
@@ -96,7 +96,7 @@ close_turns v f h l = by_test (v.closing || is_broken_bus v.stage) (may_enter en
     by_test false false d = record { bus = λ whole. hears_closed (IsFree f) v.stage v.state v.closing v.gone h (l.bus whole); leaves = λ whole gone early. (both_true v.closing (front_view.is_unoccupied f) (l.leaves whole gone early)).1 }
 
 -- a front that closes takes no request
-refused : (f : ends.View) (job : Job) → f.closing ≡ true → (submit_of f job).1 ≡ f
+refused : (f : ends.View) (job : Submission) → f.closing ≡ true → (submit_of f job).1 ≡ f
 refused f job closing = by_test (f.last == 4294967295) f.closing closing
   where
     by_test : (b c : Bool) → c ≡ true → (if b then (Err refusal.Spent, f) else (if c then (Err refusal.Closing, f) else (if not (is_ready f.stage) then (Err refusal.NotReady, f) else submit_one f (wish_of f.offers job)))).1 ≡ f
@@ -104,7 +104,7 @@ refused f job closing = by_test (f.last == 4294967295) f.closing closing
     by_test false true is = refl
     by_test false false is = absurd (true≢false (sym is))
 
-submit_turns : (w : World) (c : Check) (h : Heard) (job : Job) → Knows w c → Listens w.front w.rings.front h → Listens w.front (submit_of w.rings.front job).1 h
+submit_turns : (w : World) (c : Check) (h : Heard) (job : Submission) → Knows w c → Listens w.front w.rings.front h → Listens w.front (submit_of w.rings.front job).1 h
 submit_turns w c h job k l =
     let same : (submit_of w.rings.front job).1.stage ≡ w.rings.front.stage = (submit_kept w.rings.front job).stage in
     record {

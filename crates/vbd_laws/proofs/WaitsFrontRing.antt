@@ -6,7 +6,7 @@ use Rattle.std.proofs.lemmas.Bool.{or_parts}
 use Rattle.std.proofs.lemmas.Bool.Decides.{nat_tests}
 use Rattle.machine_pipeline.proofs.Lists.{get_within}
 use Rattle.blk_base.specs.Distance.{distance_of}
-use Rattle.blk_base.specs.declared.config.Job.{Job}
+use Rattle.blk_base.specs.declared.config.Submission.{Submission}
 use Rattle.blk_base.specs.declared.operation.Status.{Status}
 use Rattle.blk_base.specs.declared.ask.FrontAsk.{FrontAsk}
 use Rattle.blk_base.specs.declared.ask.FrontAsk.TheVariants as ask
@@ -26,7 +26,7 @@ use Rattle.blk_front.specs.declared.request.Wish.{Wish}
 use Rattle.blk_front.specs.declared.state.FrontState.{FrontState}
 use Rattle.blk_front.specs.declared.state.FrontState.TheVariants as enter
 use Rattle.blk_front.specs.declared.told.Told.TheVariants as told
-use Rattle.blk_front.specs.declared.told.Refusal.{Refusal}
+use Rattle.blk_base.specs.declared.refusal.Refusal.{Refusal}
 use Rattle.blk_front.specs.Pool.{taking}
 use Rattle.blk_front.specs.Request.{is_write, named_of, has_data, words_in, frames_for, is_indirect, naming_words}
 use Rattle.blk_front.specs.View.{View, ring_frame, slot_frame, slot_word, next_request}
@@ -445,8 +445,8 @@ submit_frames v wish (Some frames) c ready is = accepts_at v.stage v wish frames
 submit_wish : (v : View) (wish : Option Wish) (c : Check) → is_ready v.stage ≡ true → Stands v c → Stands (submit_one v wish).1 c
 submit_wish v None c ready is = is
 submit_wish v (Some wish) c ready is =
-    either_submit (is_write wish.transfer && v.read_only) c _ _ is
-    (λ t. either_submit (nat_lt v.sectors (wish.sector + named_of wish.transfer wish.count)) c _ _ is
+    either_submit (is_write wish.transfer && v.offers.read_only) c _ _ is
+    (λ t. either_submit (nat_lt v.offers.sectors (wish.sector + named_of wish.transfer wish.count)) c _ _ is
     (λ t. either_submit (nat_lt (most_segments v.offers wish.transfer) (frames_for wish.count)) c _ _ is
     (λ t. either_submit (nat_le (entries_of v.shape.order) (unfinished v)) c _ _ is (λ t. submit_frames v wish (taking (frames_taken wish.count) v.pool []) c ready is))))
 
@@ -454,7 +454,7 @@ unready : (b : Bool) → not b ≡ false → b ≡ true
 unready true e = refl
 unready false e = absurd (true≢false e)
 
-pub stands_submit : (v : View) (job : Job) (c : Check) → Stands v c → Stands (submit_of v job).1 c
+pub stands_submit : (v : View) (job : Submission) (c : Check) → Stands v c → Stands (submit_of v job).1 c
 stands_submit v job c is =
     either_submit (v.last == 4294967295) c _ _ is
     (λ t. either_submit v.closing c _ _ is (λ t. either_submit (not (is_ready v.stage)) c _ _ is (λ ready. submit_wish v (wish_of v.offers job) c (unready (is_ready v.stage) ready) is)))

@@ -17,8 +17,8 @@ use Rattle.back_jobs.specs.Jobs.{is_done, asked, place_of, work_at, work_of, wai
 use Rattle.blk_back.specs.declared.stage.Reply.{Reply}
 use Rattle.blk_back.specs.declared.stage.BackStage.{BackStage}
 use Rattle.blk_back.specs.declared.stage.BackStage.TheVariants as stage
-use Rattle.blk_back.specs.declared.told.Halt.{Halt}
-use Rattle.blk_back.specs.declared.told.Halt.TheVariants as halt
+use Rattle.blk_base.specs.declared.halt.Halt.{Halt}
+use Rattle.blk_base.specs.declared.halt.Halt.TheVariants as halt
 use Rattle.blk_back.specs.View as ends
 use Rattle.blk_back.specs.Ask.{next_reply, is_wait}
 use Rattle.blk_back.specs.Step.{overrun, looked, loop_step, next_number, fetched, fetch_step, may_attach, attached, halts, step_at, job_ask_of}

@@ -164,14 +164,17 @@ FrontIsOver w = (w.front.state ≡ state.Closed) ⊎ (front_view.is_broken w.rin
 abbrev pub FrontMayWait : World → Check → Heard → Type 0
 FrontMayWait w c h = ((is_unserved w.front.state ≡ true) × FrontRests w h) ⊎ FrontSleeps w c h ⊎ FrontIsOver w
 
--- so it is at every moment, whatever happens
-abbrev pub FrontWaits : Type 0
-FrontWaits =
-    (config : Options) (hs : List Happening) → config.indirect ≤ 960
-    → let w = after hs (start_of config) in
+-- after all this it waits exactly in these cases
+abbrev pub FrontWaitsAfter : Options → List Happening → Type 0
+FrontWaitsAfter config hs =
+    let w = after hs (start_of config) in
     let c = front_check hs (start_of config) Awake in
     let h = front_heard hs (start_of config) Unwatched in
     (front.ask_of (frontend_of w) ≡ front_ask.Wait) ↔ FrontMayWait w c h
+
+-- so it is at every moment, whatever happens
+abbrev pub FrontWaits : Type 0
+FrontWaits = (config : Options) (hs : List Happening) → config.indirect ≤ 960 → FrontWaitsAfter config hs
 
 -- the back's event word is word 1 of the ring's first page, and the requests' producer word 0
 abbrev pub is_page_word : (page m : Mapping) → (word which : ℕ) → Bool
@@ -254,14 +257,17 @@ pub record BackSleeps (w : World) (c : Check) (h : Heard) : Type 0 where
 abbrev pub BackMayWait : World → Check → Heard → Type 0
 BackMayWait w c h = ((w.back.state ≡ state.InitWait) × BackRests w h) ⊎ BackSleeps w c h ⊎ (w.back.state ≡ state.Closed)
 
--- so it is at every moment, whatever happens
-abbrev pub BackWaits : Type 0
-BackWaits =
-    (config : Options) (hs : List Happening) → config.indirect ≤ 960
-    → let w = after hs (start_of config) in
+-- after all this it waits exactly in these cases
+abbrev pub BackWaitsAfter : Options → List Happening → Type 0
+BackWaitsAfter config hs =
+    let w = after hs (start_of config) in
     let c = back_check hs (start_of config) Awake in
     let h = back_heard hs (start_of config) Unwatched in
     (back.ask_of (backend_of w) ≡ back_ask.Wait) ↔ BackMayWait w c h
+
+-- so it is at every moment, whatever happens
+abbrev pub BackWaits : Type 0
+BackWaits = (config : Options) (hs : List Happening) → config.indirect ≤ 960 → BackWaitsAfter config hs
 
 -- a job that isn't held any more, or is done
 abbrev pub IsOver : Option Work → Type 0
@@ -272,8 +278,11 @@ IsOver (Some t) = is_done t ≡ true
 abbrev pub JobMayWait : ring.View → ℕ → Type 0
 JobMayWait v number = IsOver (work_of v.jobs.works number) ⊎ (is_held_up v.jobs.works number ≡ true) ⊎ (is_some v.halted ≡ true)
 
+-- after all this the job of a number waits exactly in these cases
+abbrev pub JobWaitsAfter : Options → List Happening → ℕ → Type 0
+JobWaitsAfter config hs number =
+    let w = after hs (start_of config) in (back_step.job_ask_of (backend_of w) number ≡ back_ask.Wait) ↔ JobMayWait w.rings.back number
+
 -- so it is at every moment, whatever happens
 abbrev pub JobWaits : Type 0
-JobWaits =
-    (config : Options) (hs : List Happening) (number : ℕ) → config.indirect ≤ 960
-    → let w = after hs (start_of config) in (back_step.job_ask_of (backend_of w) number ≡ back_ask.Wait) ↔ JobMayWait w.rings.back number
+JobWaits = (config : Options) (hs : List Happening) (number : ℕ) → config.indirect ≤ 960 → JobWaitsAfter config hs number

@@ -1,7 +1,7 @@
 -- Worked reports that no machine gives: a front that is broken without a cause, one that goes on after a cause, and answers that no response gave.
 use Rattle.std.specs.Prelude.{ℕ, List, [], ◌∷◌, ◌++◌, codes, Some}
 use Rattle.blk_base.specs.Options.{Options}
-use Rattle.blk_base.specs.declared.config.Job.TheVariants.{Flush}
+use Rattle.blk_base.specs.declared.config.Submission.TheVariants.{Flush}
 use Rattle.blk_base.specs.declared.operation.Abi.TheVariants.{X64}
 use Rattle.blk_base.specs.declared.operation.Status.TheVariants.{Okay, Error}
 use Rattle.blk_base.specs.declared.moves.Mover.TheVariants.{Front}

@@ -6,7 +6,7 @@ use Rattle.blk_base.specs.declared.moves.BackMover.TheVariants as back
 use Rattle.blk_base.specs.declared.moves.Mover.TheVariants.{Back}
 use Rattle.blk_base.specs.declared.moves.Move.TheVariants.{GetKey, SetKey, Map, MapRefused, Bind}
 use Rattle.schedule_text.specs.declared.line.Detail.TheVariants.{Moves}
-use Rattle.schedule_text.specs.declared.line.Halt.TheVariants as halts
+use Rattle.blk_base.specs.declared.halt.Halt.TheVariants as halts
 use Rattle.schedule_text.specs.declared.line.Line.{Line}
 use Rattle.schedule_text.specs.declared.line.Line.TheVariants as lines
 use Rattle.xenbus_state.specs.declared.keys.FrontKey.TheVariants as key

@@ -63,7 +63,7 @@ pub fn a_move_is_what_its_end_asks()
 pub fn every_ask_may_be_carried_out()
     ensures front { (w : World) → IsFit w → StaysInMemory (front_ask (frontend_of w)) → FrontMay w.rings.under (front_ask (frontend_of w)) }
     ensures back { (w : World) → IsFit w → Names (hands_of w.rings.back) (back_ask (backend_of w)) → w.rings.under.grants.made + 1 < 2 ^ 64
-        → length (hands_of w.rings.back) ≤ 529 → BackMay w.rings.under (Some w.rings.front.sectors) (back_ask (backend_of w)) }
+        → length (hands_of w.rings.back) ≤ 529 → BackMay w.rings.under (Some w.rings.back.jobs.info.sectors) (back_ask (backend_of w)) }
 {}
 
 /// Whatever a schedule makes happen is possible for the machine of the ring: each path and text of a

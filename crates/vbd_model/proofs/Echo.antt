@@ -10,7 +10,7 @@ use Rattle.schedule_text.specs.declared.line.Line.{Line}
 use Rattle.schedule_text.specs.declared.line.Line.TheVariants as lines
 use Rattle.plain_disk.specs.Echo.{Answers, AnswersAll, AnswersSettle, AnswersLook, AreRingWords}
 use Rattle.blk_front.specs.declared.state.FrontState.{FrontState}
-use Rattle.blk_back.specs.declared.told.Halt.{Halt}
+use Rattle.blk_base.specs.declared.halt.Halt.{Halt}
 use Rattle.split_model.specs.Happening as ring
 use Rattle.split_model.proofs.Echo.{echo_of, echo-append, is_move as is_ring_move, moves_silent as ring_moves_silent, are_moves-append as ring_moves-append, submit_answers, poke_echo, dump_answers, overwritten_echo, suspend_echo}
 use Rattle.xenbus_state.specs.BackView.{BackView}

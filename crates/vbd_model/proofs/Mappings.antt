@@ -48,8 +48,8 @@ use Rattle.blk_layout.specs.Entry.{request_of, double_at, segment_of, segments_a
 use Rattle.blk_back.specs.declared.stage.Reply.{Reply}
 use Rattle.blk_back.specs.declared.stage.BackStage.{BackStage}
 use Rattle.blk_back.specs.declared.stage.BackStage.TheVariants as stage
-use Rattle.blk_back.specs.declared.told.Halt.{Halt}
-use Rattle.blk_back.specs.declared.told.Halt.TheVariants as halt
+use Rattle.blk_base.specs.declared.halt.Halt.{Halt}
+use Rattle.blk_base.specs.declared.halt.Halt.TheVariants as halt
 use Rattle.blk_back.specs.View.{View}
 use Rattle.blk_front.specs.Ask as front_asks
 use Rattle.blk_back.specs.Ask as back_asks

@@ -1,11 +1,11 @@
 -- The happenings that events make are possible ones.
 use Rattle.std.proofs.Common.{◌≡◌, ℕ, zero, suc, inl, inr, Bool, true, false, true≢false, List, [], ◌∷◌, ◌++◌, sym, subst, arith}
 use Rattle.std.specs.Prelude.{replicate}
-use Rattle.blk_base.specs.declared.config.Job.{Job}
-use Rattle.blk_base.specs.declared.config.Job.TheVariants as jobs
+use Rattle.blk_base.specs.declared.config.Submission.{Submission}
+use Rattle.blk_base.specs.declared.config.Submission.TheVariants as submissions
 use Rattle.schedule_text.specs.declared.event.Event.{Event}
 use Rattle.schedule_text.specs.declared.event.Event.TheVariants as events
-use Rattle.schedule_text.specs.Range.{JobHasWidths}
+use Rattle.schedule_text.specs.Range.{SubmissionHasWidths}
 use Rattle.machine_pipeline.specs.Allowed.{IsServable}
 use Rattle.vbd_model.specs.World.{World, is_quiet}
 use Rattle.vbd_model.specs.Happening.{Happening, FrontMoves, BackMoves, Submits, Pokes, OverwritesKey, Suspends, Looks, Settles, happens, after}
@@ -83,12 +83,12 @@ settling_so_far_possible w hs (inl r) = rounds_so_far_possible is_quiet (settle_
 settling_so_far_possible w hs (inr s) = settling_possible w hs s
 
 -- a submission is of some sectors, or a flush
-some_sectors : (job : Job) → JobHasWidths job → IsServable job
-some_sectors (jobs.Read sector count) widths = let some = widths.1 in omega arith
-some_sectors (jobs.Write sector count tag) widths = (let some = widths.1 in omega arith, widths.2)
-some_sectors (jobs.Barrier sector count tag) widths = (let some = widths.1 in omega arith, widths.2)
-some_sectors jobs.Flush widths = tt
-some_sectors (jobs.Discard sector count) widths = let some = widths.1 in omega arith
+some_sectors : (job : Submission) → SubmissionHasWidths job → IsServable job
+some_sectors (submissions.Read sector count) widths = let some = widths.1 in omega arith
+some_sectors (submissions.Write sector count tag) widths = (let some = widths.1 in omega arith, widths.2)
+some_sectors (submissions.Barrier sector count tag) widths = (let some = widths.1 in omega arith, widths.2)
+some_sectors submissions.Flush widths = tt
+some_sectors (submissions.Discard sector count) widths = let some = widths.1 in omega arith
 
 -- this alone happens
 only : (h : Happening) (w : World) (hs : List Happening) → IsPossible w h → hs ≡ h ∷ [] → ArePossible hs w

@@ -182,7 +182,7 @@ ends_as one one_far other other_far (Ok done) a b into far p = leads_as one othe
 ends_as one one_far other other_far (Err stop) a b into far p = stops_as one_far other_far stop a b far p
 
 -- one thing happened, of these kinds
-pub goes_one : (kind so_far : List Happening → Type 0) (n : ℕ) (h : Happening) (result : Result (Unit {0}) RecordStop) (a b : Moment) → kind (h ∷ []) → so_far (h ∷ []) → b.world ≡ happens a.world h → mappings_of b.world ≤ mappings_of a.world + n → b.world.rings.front.sectors ≡ a.world.rings.front.sectors → DiskGoes a.world h a.disk b.disk → Adds (lines_at a.world h) result a.recorder b.recorder → Goes kind so_far n result a b
+pub goes_one : (kind so_far : List Happening → Type 0) (n : ℕ) (h : Happening) (result : Result (Unit {0}) RecordStop) (a b : Moment) → kind (h ∷ []) → so_far (h ∷ []) → b.world ≡ happens a.world h → mappings_of b.world ≤ mappings_of a.world + n → b.world.rings.back.jobs.info.sectors ≡ a.world.rings.back.jobs.info.sectors → DiskGoes a.world h a.disk b.disk → Adds (lines_at a.world h) result a.recorder b.recorder → Goes kind so_far n result a b
 goes_one kind so_far n h result a b is far world made sectors disk told = record {
   ends = ends_as (λ hs. hs ≡ h ∷ []) (λ hs. hs ≡ h ∷ []) kind so_far result a b (λ xs e. subst kind (sym e) is) (λ xs e. subst so_far (sym e) far) (ends_one h result a b world disk told);
   keeps = record { made = made; sectors = sectors; attachment = disk_attachment a.world h a.disk b.disk disk };
@@ -194,7 +194,7 @@ goes_lacking kind so_far n h a b far needed world disk recorder =
     let made : mappings_of b.world ≡ mappings_of a.world = ap mappings_of world in
     record {
       ends = stops_as (λ hs. hs ≡ h ∷ []) so_far OutOfMemory a b (λ xs e. subst so_far (sym e) far) (lacks_one h a b needed world disk recorder);
-      keeps = record { made = omega arith; sectors = ap (λ (w : World). w.rings.front.sectors) world; attachment = ap (λ (d : DiskSeen). d.attachment) disk };
+      keeps = record { made = omega arith; sectors = ap (λ (w : World). w.rings.back.jobs.info.sectors) world; attachment = ap (λ (d : DiskSeen). d.attachment) disk };
     }
 
 -- nothing happened, which is of this kind

@@ -3,7 +3,7 @@ use Rattle.std.proofs.Common.{◌≡◌, ℕ, Bool, true, false, inl, inr, List,
 use Rattle.std.specs.Prelude.{replicate}
 use Rattle.std.specs.List.{AllByRecursion}
 use Rattle.std.proofs.lemmas.List.Elements.{filter_map-append}
-use Rattle.blk_base.specs.declared.config.Job.{Job}
+use Rattle.blk_base.specs.declared.config.Submission.{Submission}
 use Rattle.schedule_text.specs.declared.event.Event.{Event}
 use Rattle.schedule_text.specs.declared.event.Event.TheVariants as events
 use Rattle.split_model.specs.Happening as ring
@@ -31,11 +31,11 @@ both_submit a b w = ap submitted_of (all_does-append a b w) ∙ filter_map-appen
 same_submit : (hs all : List Happening) (w : World) → hs ≡ all → submitted_of (all_does hs w) ≡ submitted_of (all_does all w)
 same_submit hs all w e = ap (λ (l : List Happening). submitted_of (all_does l w)) e
 
-joined : (hs a b : List Happening) (w : World) (js : List Job) → hs ≡ a ++ b → submitted_of (all_does a w) ≡ [] → submitted_of (all_does b (after a w)) ≡ js → submitted_of (all_does hs w) ≡ js
-joined hs a b w js e p q = same_submit hs (a ++ b) w e ∙ (both_submit a b w ∙ (ap (λ (x : List Job). x ++ submitted_of (all_does b (after a w))) p ∙ q))
+joined : (hs a b : List Happening) (w : World) (js : List Submission) → hs ≡ a ++ b → submitted_of (all_does a w) ≡ [] → submitted_of (all_does b (after a w)) ≡ js → submitted_of (all_does hs w) ≡ js
+joined hs a b w js e p q = same_submit hs (a ++ b) w e ∙ (both_submit a b w ∙ (ap (λ (x : List Submission). x ++ submitted_of (all_does b (after a w))) p ∙ q))
 
 -- what begins moves is moves
-first_empty : (xs ys : List Job) → xs ++ ys ≡ [] → xs ≡ []
+first_empty : (xs ys : List Submission) → xs ++ ys ≡ [] → xs ≡ []
 first_empty [] ys e = refl
 first_empty (x ∷ xs) ys e = absurd (cc)
 
@@ -96,12 +96,12 @@ pub events_submit : (es : List Event) (w : World) (hs : List Happening) → AreO
 events_submit [] w hs is = same_submit hs [] w is
 events_submit (e ∷ es) w hs is =
     same_submit hs (is.0 ++ is.1) w is.2 ∙ (both_submit is.0 is.1 w
-    ∙ (ap (λ (x : List Job). x ++ submitted_of (all_does is.1 (after is.0 w))) (event_submits e w is.0 is.3)
-    ∙ (ap (λ (x : List Job). jobs_of (e ∷ []) ++ x) (events_submit es (after is.0 w) is.1 is.4) ∙ sym (filter_map-append job_submitted (e ∷ []) es))))
+    ∙ (ap (λ (x : List Submission). x ++ submitted_of (all_does is.1 (after is.0 w))) (event_submits e w is.0 is.3)
+    ∙ (ap (λ (x : List Submission). jobs_of (e ∷ []) ++ x) (events_submit es (after is.0 w) is.1 is.4) ∙ sym (filter_map-append job_submitted (e ∷ []) es))))
 
 -- and of one more, as far as it came
 pub events_so_far_submit : (es : List Event) (e : Event) (w : World) (hs more : List Happening) → AreOfAll es w hs → AreOfSoFar e (after hs w) more → submitted_of (all_does (hs ++ more) w) ≡ jobs_of (es ++ e ∷ [])
 events_so_far_submit es e w hs more is last =
     both_submit hs more w
-    ∙ (ap (λ (x : List Job). x ++ submitted_of (all_does more (after hs w))) (events_submit es w hs is)
-    ∙ (ap (λ (x : List Job). jobs_of es ++ x) (so_far_submits e (after hs w) more last) ∙ sym (filter_map-append job_submitted es (e ∷ []))))
+    ∙ (ap (λ (x : List Submission). x ++ submitted_of (all_does more (after hs w))) (events_submit es w hs is)
+    ∙ (ap (λ (x : List Submission). jobs_of es ++ x) (so_far_submits e (after hs w) more last) ∙ sym (filter_map-append job_submitted es (e ∷ []))))

@@ -183,8 +183,10 @@ pub record HaveTerms (r : ends.View) (v : BackView) : Type 0 where
   pub grefs : r.grefs ≡ v.grefs
   pub port : r.ring.port ≡ v.terms.port
 
--- the disk as the end of the ring publishes it has what the negotiation offers
-pub record IsOffered (info : DiskInfo) (f : Features) : Type 0 where
+-- the disk as the end of the ring has it is the one that the negotiation publishes, and it serves what that offers
+pub record IsOffered (info : DiskInfo) (f : Features) (disk : DiskFacts) : Type 0 where
+  pub sectors : info.sectors ≡ disk.sectors
+  pub read_only : info.read_only ≡ disk.read_only
   pub barrier : info.barrier ≡ f.barrier
   pub flush : info.flush ≡ f.flush
   pub discard : info.discard ≡ f.discard
@@ -233,7 +235,7 @@ IsUnbound back_ring.MapRing c = (is_bound c ≡ false) × (c.back_pending ≡ fa
 IsUnbound back_ring.Bind c = (is_bound c ≡ false) × (c.back_pending ≡ false)
 IsUnbound r c = Unit {0}
 
--- the machine is safe, and so is the back's negotiation; each negotiation goes with its end of the ring, closes and halts with it, and a front that wrote Closing has no request left; both know the shape of the ring, the references of its pages and the port, and the ring that is agreed has an entry for each request; the back offers what it offers, no more than 960 segments of an indirect request among it, its end of the ring serves that, its keys say so, and the front reads them only then; and no event is pending where no port is made, or none is bound yet
+-- the machine is safe, and so is the back's negotiation; each negotiation goes with its end of the ring, closes and halts with it, and a front that wrote Closing has no request left; both know the shape of the ring, the references of its pages and the port, and the ring that is agreed has an entry for each request; the back offers what it offers, no more than 960 segments of an indirect request among it, its end of the ring serves that, on the disk that it publishes, its keys say so, and the front reads them only then; and no event is pending where no port is made, or none is bound yet
 pub record IsFit (w : World) : Type 0 where
   pub safe : IsSafe w.rings
   pub layout : w.rings.front.shape.abi ≡ w.front.abi
@@ -241,7 +243,7 @@ pub record IsFit (w : World) : Type 0 where
   pub room : unfinished w.rings.front ≤ entries_of (min w.front.order 4)
   pub offers : w.back.features ≡ offer w.back.disk.read_only w.back.features.indirect
   pub limited : w.back.features.indirect ≤ 960
-  pub published : IsOffered w.rings.back.jobs.info w.back.features
+  pub published : IsOffered w.rings.back.jobs.info w.back.features w.back.disk
   pub said : SaidAt (SaysKey w.rings.under.keys w.back.features w.back.disk) w.back.stage
   pub announced : IsAnnounced (SaysKey w.rings.under.keys w.back.features w.back.disk) w.rings.under.keys
   pub reads : ReadsOffer (SaysKey w.rings.under.keys w.back.features w.back.disk) w.front.stage

@@ -1,6 +1,6 @@
 -- What may happen to the machine, and what that is to the ends of its ring and to each end's negotiation.
 use Rattle.std.specs.Prelude.{◌≡◌, ℕ, Bool, true, false, ◌&&◌, List, [], ◌∷◌, ◌++◌, map, Option, Some, None, if◌then◌else◌, decimal}
-use Rattle.blk_base.specs.declared.config.Job.{Job}
+use Rattle.blk_base.specs.declared.config.Submission.{Submission}
 use Rattle.blk_io.specs.Disk.{DiskSeen}
 use Rattle.blk_base.specs.declared.parts.End.{End}
 use Rattle.blk_base.specs.declared.parts.End.TheVariants as end
@@ -10,7 +10,7 @@ use Rattle.hypervisor.specs.Act.{FrontAct, BackAct, Outcome, Took, front_act, ba
 use Rattle.blk_front.specs.State.{is_open}
 use Rattle.blk_front.specs.declared.state.FrontState.{FrontState}
 use Rattle.blk_front.specs.declared.state.FrontState.TheVariants as front_state
-use Rattle.blk_back.specs.declared.told.Halt.{Halt}
+use Rattle.blk_base.specs.declared.halt.Halt.{Halt}
 use Rattle.xenbus_state.specs.declared.table.BackHalt.{BackHalt}
 use Rattle.xenbus_state.specs.declared.front.FrontBusAsk.{FrontBusAsk}
 use Rattle.xenbus_state.specs.declared.front.FrontBusAsk.TheVariants as front_ask
@@ -36,7 +36,7 @@ pub data Happening : Type 0 where
   BackMoves : Happening
   JobMoves : (number : ℕ) (outcome : Outcome) → Happening
   Closes : (at : End) → Happening
-  Submits : (job : Job) → Happening
+  Submits : (job : Submission) → Happening
   Notifies : (at : End) → Happening
   Pokes : (frame word value : ℕ) → Happening
   OverwritesKey : (name text : List ℕ) → Happening

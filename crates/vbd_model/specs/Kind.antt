@@ -3,7 +3,7 @@ use Rattle.std.specs.Prelude.{◌≡◌, ℕ, zero, suc, ◌+◌, ◌*◌, ◌^�
 use Rattle.blk_base.specs.Options.{Options}
 use Rattle.hypervisor.specs.Act.{Outcome, IsGiven}
 use Rattle.schedule_text.specs.Event.{is_number}
-use Rattle.schedule_text.specs.Range.{JobHasWidths}
+use Rattle.schedule_text.specs.Range.{SubmissionHasWidths}
 use Rattle.schedule_text.specs.declared.event.Event.{Event}
 use Rattle.schedule_text.specs.declared.event.Event.TheVariants as events
 use Rattle.blk_front.specs.Submit.{unfinished, sectors_owed}
@@ -140,7 +140,7 @@ IsSuspendSoFar w hs = IsSuspend w hs ⊎ ((hs ≡ Looks false ∷ []) × (may_su
 
 -- an event makes these happenings
 abbrev pub Makes : Event → World → List Happening → Type 0
-Makes (events.Submit job) w hs = (hs ≡ Submits job ∷ []) × JobHasWidths job
+Makes (events.Submit job) w hs = (hs ≡ Submits job ∷ []) × SubmissionHasWidths job
 Makes (events.Front n) w hs = hs ≡ replicate n FrontMoves
 Makes (events.Back n) w hs = hs ≡ replicate n BackMoves
 Makes (events.Job number n) w hs = AreSomeJobMoves number n hs

@@ -21,15 +21,15 @@ pub record Moment : Type 0 where
 abbrev pub moment : World → DiskSeen → RecorderSeen → Moment
 moment w disk recorder = record { world = w; disk = disk; recorder = recorder }
 
--- the disk is attached with the front's sectors, and there are numbers for the mappings that the jobs may come to make and for so many more
+-- the disk is attached with the sectors that the back has, and there are numbers for the mappings that the jobs may come to make and for so many more
 pub record IsReadyFor (n : ℕ) (w : World) (disk : DiskSeen) : Type 0 where
-  pub attached : attached_of disk ≡ Some w.rings.front.sectors
+  pub attached : attached_of disk ≡ Some w.rings.back.jobs.info.sectors
   pub left : mappings_of w + n < 2 ^ 64
 
 -- so many mappings more were made at most, or may come to be by the jobs that are held; what is attached stays
 pub record Keeps (n : ℕ) (a b : Moment) : Type 0 where
   pub made : mappings_of b.world ≤ mappings_of a.world + n
-  pub sectors : b.world.rings.front.sectors ≡ a.world.rings.front.sectors
+  pub sectors : b.world.rings.back.jobs.info.sectors ≡ a.world.rings.back.jobs.info.sectors
   pub attachment : b.disk.attachment ≡ a.disk.attachment
 
 -- happenings of this kind lead from the one moment to the other

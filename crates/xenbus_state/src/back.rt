@@ -153,8 +153,8 @@ impl BackBus {
         }
     }
 
-    /// Completes what is asked by this answer. The end halts exactly where it says why.
-    pub fn complete(&mut self, answer: &BackAnswer) -> Option<BackHalt>
+    /// Answers what is asked. The end halts exactly where it says why.
+    pub fn tell(&mut self, answer: &BackAnswer) -> Option<BackHalt>
         requires { IsAnswer (ask_of self.old) answer.now }
         ensures completed { self.new ≡ step_of self.old answer.now }
         ensures halt { result ≡ halt_of self.old answer.now }

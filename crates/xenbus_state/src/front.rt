@@ -1,7 +1,7 @@
 // The front's end of the negotiation.
 ghost use Rattle.std.specs.Prelude.{◌≡◌, ◌≤◌, unwrap_or};
 ghost use Rattle.blk_base.specs.declared.ask.FrontAnswer.{FrontAnswer};
-ghost use Rattle.xenbus_state.specs.FrontView.{start_of, ring_order, pages_of, terms_of, suspended, closed, close_news, broken, is_broken, keeps_grants};
+ghost use Rattle.xenbus_state.specs.FrontView.{start_of, ring_order, pages_of, terms_of, suspended, closed, close_news, is_broken, keeps_grants};
 ghost use Rattle.xenbus_state.specs.FrontAsk.{due, leaving, ask_at, ask_of, IsAnswer};
 ghost use Rattle.xenbus_state.specs.FrontStep.{step_of, news_of};
 ghost use Rattle.xenbus_state.specs.FrontSound.{Rises, IsPage, IsSound};
@@ -134,8 +134,8 @@ impl FrontBus {
         }
     }
 
-    /// Completes what is asked by this answer.
-    pub fn complete(&mut self, idle: bool, answer: &FrontAnswer) -> Option<FrontNews>
+    /// Answers what is asked.
+    pub fn tell(&mut self, idle: bool, answer: &FrontAnswer) -> Option<FrontNews>
         requires { IsAnswer (ask_of self.old idle) answer.now }
         ensures completed { self.new ≡ step_of self.old idle answer.now }
         ensures news { result ≡ news_of self.old idle answer.now }
@@ -154,13 +154,6 @@ impl FrontBus {
         }
         self.closing = true;
         Some(FrontNews::Closing)
-    }
-
-    /// The front met a word that no honest back leaves, and does nothing more.
-    pub fn break_off(&mut self, word: u32)
-        ensures { self.new ≡ broken word self.old }
-    {
-        self.stage = FrontBusStage::Broken(word);
     }
 
     /// A new epoch begins: all is negotiated anew, unless the front is closed or broken.

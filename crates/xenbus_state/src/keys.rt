@@ -5,12 +5,9 @@ ghost use Rattle.key_directory.specs.Paths.{directory_of};
 ghost use Rattle.xenbus_state.specs.Keys.{front_name, back_name, path_under};
 
 use arrayvec::ArrayString;
-use blk_base::{End, Path, ShortText};
+use blk_base::{End, KeyName, Path, ShortText};
 use itoa::Buffer;
 use key_directory::directory_of;
-
-/// The name of a key, at most 32 bytes.
-pub type KeyName = ShortText<32>;
 
 /// A key that the front sets, its state aside (`io/blkif.h`, "Frontend XenBus Nodes").
 #[derive(Clone, Copy, Debug, PartialEq, Eq)]

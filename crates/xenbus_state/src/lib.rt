@@ -19,7 +19,7 @@ mod values;
 
 pub use back::{BackBus, BackBusAsk};
 pub use front::{FrontBus, FrontBusAsk, FrontNews};
-pub use keys::{BackKey, FrontKey, KeyName, back_path, front_path, state_path};
+pub use keys::{BackKey, FrontKey, back_path, front_path, state_path};
 pub use laws::{
     a_back_connects_in_order, a_back_offers_in_order, a_broken_front_has_its_cause,
     a_front_asks_for_one_port, a_front_leaves_in_order, a_front_makes_its_ring_in_order,

@@ -9,9 +9,9 @@ ghost use Rattle.back_jobs.specs.Hands.{Names, HandsAfter};
 
 use super::Back;
 use crate::stage::BackStage;
-use crate::told::{BackTold, Halt};
+use crate::told::BackTold;
 use back_jobs::Effect;
-use blk_base::{BackAnswer, BackAsk};
+use blk_base::{BackAnswer, BackAsk, Halt};
 
 impl Back {
     /// What the job of the `number`-th request that was fetched in this epoch asks next; `Wait` also
@@ -29,9 +29,9 @@ impl Back {
         }
     }
 
-    /// Completes what the job of a number asks by this answer.
+    /// Answers what the job of a number asks.
     #[inline(always)]
-    pub fn job_complete(&mut self, number: u64, answer: &BackAnswer)
+    pub fn job_tell(&mut self, number: u64, answer: &BackAnswer)
         requires answer { IsAnswer (job_ask_of self.old number) answer.now }
         requires told { self.old.told ≡ None }
         ensures stepped { self.new ≡ job_step self.old number answer.now }
@@ -41,7 +41,7 @@ impl Back {
         if let Some(_) = self.halted {
             unreachable!();
         }
-        if let Some(effect) = self.jobs.complete(number, answer) {
+        if let Some(effect) = self.jobs.tell(number, answer) {
             self.told = Some(told_effect(effect));
         }
     }

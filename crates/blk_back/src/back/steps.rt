@@ -9,9 +9,9 @@ ghost use Rattle.blk_back.specs.Step.{step_at, attaches, loop_step, loop_word, l
 
 use super::Back;
 use crate::stage::{BackStage, Reply};
-use crate::told::{BackTold, Halt};
+use crate::told::BackTold;
 use arrayvec::ArrayVec;
-use blk_base::{Abi, BackAnswer, Mapping};
+use blk_base::{Abi, BackAnswer, Halt, Mapping};
 use blk_layout::read_request;
 use ring_words::{BackRing, RingShape, notify};
 
@@ -205,7 +205,7 @@ impl Back {
         requires { length self.old.pages ≡ 2 ^ self.old.shape.order }
         ensures { self.new ≡ abort self.old }
     {
-        self.stage = match self.jobs.abort() {
+        self.stage = match self.jobs.give_up() {
             None => BackStage::UnmapRing,
             Some(mapping) => BackStage::Abort(mapping),
         };

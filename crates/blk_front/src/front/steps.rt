@@ -264,7 +264,7 @@ impl Front {
         ensures within { IfSome result (λ place. place < length self.now.requests) }
     {
         let count = self.requests.len() - self.waiting as usize;
-        self.requests.place_among(count, id)
+        self.requests.find(count, id)
     }
 
     /// A response was read whole.
@@ -290,7 +290,7 @@ impl Front {
         ensures { IfSome (slice_get self.old.requests place) (λ r. self.new ≡ taken self.old place r status) }
     {
         self.ring.indices.consume();
-        let request = self.requests.remove(place);
+        let request = self.requests.finish(place);
         if request.frames.is_empty() {
             let id = request.number;
             self.spare.give(request.frames);

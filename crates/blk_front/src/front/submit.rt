@@ -16,15 +16,16 @@ use crate::request::{
 };
 use crate::stage::FrontStage;
 use crate::state::Offers;
-use crate::told::{Refusal, Told};
-use blk_base::{Endpoint, FrontAsk, Job};
+use crate::told::Told;
+use blk_base::{Endpoint, FrontAsk, Refusal, Submission};
 
 impl Front {
     /// Hands the front a request, and answers its number, one more than the last. A refusal is the
-    /// first that applies, exactly where it does, and changes nothing. It takes no memory.
-    pub fn submit(&mut self, job: Job) -> Result<u32, Refusal>
-        ensures answer { result ≡ (submit_of self.old job).0 }
-        ensures front { self.new ≡ (submit_of self.old job).1 }
+    /// first that applies, exactly where it does, and changes nothing; the disk's sectors, and whether it
+    /// is read-only, are those that the front connected with. It takes no memory.
+    pub fn submit(&mut self, submission: Submission) -> Result<u32, Refusal>
+        ensures answer { result ≡ (submit_of self.old submission).0 }
+        ensures front { self.new ≡ (submit_of self.old submission).1 }
     {
         if self.last == 4294967295 {
             return Err(Refusal::Spent);
@@ -35,14 +36,17 @@ impl Front {
         if !is_ready(self.stage) {
             return Err(Refusal::NotReady);
         }
-        let Some(wish) = wish_of(self.offers, &job) else {
+        let Some(wish) = wish_of(self.offers, &submission) else {
             return Err(Refusal::Unsupported);
         };
-        if self.read_only && matches!(wish.transfer, Transfer::Write(_) | Transfer::Barrier(_)) {
+        if self.offers.read_only
+            && matches!(wish.transfer, Transfer::Write(_) | Transfer::Barrier(_))
+        {
             return Err(Refusal::ReadOnly);
         }
         let count = u64::from(wish.transfer.named(wish.count));
-        if count > self.sectors || wish.sector > self.sectors - count {
+        let sectors = self.offers.sectors;
+        if count > sectors || wish.sector > sectors - count {
             return Err(Refusal::Range);
         }
         if frames_for(wish.count) > most_segments(self.offers, wish.transfer) {
@@ -165,7 +169,7 @@ impl Front {
         ensures short { result.1 ≤ 3939840 }
     {
         let requests = self.unfinished();
-        let sectors = sectors_of(self.requests.as_slice());
+        let sectors = sectors_of(self.requests.in_order());
         (requests, sectors + self.ending_sectors())
     }
 
@@ -261,33 +265,33 @@ fn most_segments(offers: Offers, transfer: Transfer) -> u32
 }
 
 // The sectors of a request, and what is done with them; `None` where the back doesn't serve it.
-fn wish_of(offers: Offers, job: &Job) -> Option<Wish>
-    ensures value { result ≡ wish_of offers job.now }
+fn wish_of(offers: Offers, submission: &Submission) -> Option<Wish>
+    ensures value { result ≡ wish_of offers submission.now }
     ensures some { IfSome result (λ wish. is_moving wish.transfer ≡ true → 1 ≤ wish.count) }
     ensures none { IfSome result (λ wish. is_moving wish.transfer ≡ false → wish.count ≡ 0) }
 {
-    match *job {
-        Job::Read { sector, count } => Some(Wish {
+    match *submission {
+        Submission::Read { sector, count } => Some(Wish {
             sector,
             count: count.get(),
             transfer: Transfer::Read,
         }),
-        Job::Write { sector, count, tag } => Some(Wish {
+        Submission::Write { sector, count, tag } => Some(Wish {
             sector,
             count: count.get(),
             transfer: Transfer::Write(tag),
         }),
-        Job::Barrier { sector, count, tag } if offers.barrier => Some(Wish {
+        Submission::Barrier { sector, count, tag } if offers.barrier => Some(Wish {
             sector,
             count: count.get(),
             transfer: Transfer::Barrier(tag),
         }),
-        Job::Flush if offers.flush => Some(Wish {
+        Submission::Flush if offers.flush => Some(Wish {
             sector: 0,
             count: 0,
             transfer: Transfer::Flush,
         }),
-        Job::Discard { sector, count } if offers.discard => Some(Wish {
+        Submission::Discard { sector, count } if offers.discard => Some(Wish {
             sector,
             count: 0,
             transfer: Transfer::Discard(count.get()),

@@ -2,8 +2,8 @@
 // their parts; the calls that play them promise nothing, and are proved once.
 use crate::asks::{Answer, Ask, Why, asked, given, halt};
 use crate::expected::{holds, same};
-use blk_back::{Back, BackTold, Halt};
-use blk_base::{Abi, BackAnswer, BackAsk, Config, Endpoint, Mapping, OutOfMemory, Status};
+use blk_back::{Back, BackTold};
+use blk_base::{Abi, BackAnswer, BackAsk, Config, Endpoint, Halt, Mapping, OutOfMemory, Status};
 use std::alloc::Global;
 use std::process::Abort;
 
@@ -47,8 +47,8 @@ fn back_from(alloc: Global, start: u32) -> Result<Back, OutOfMemory> {
     Back::new(alloc, &config)
 }
 
-// Completes what the back asks by an answer of that kind, and takes what it tells.
-fn complete(rt: &impl Abort, back: &mut Back, given: BackAnswer) -> Option<BackTold> {
+// Answers what the back asks with an answer of that kind, and takes what it tells.
+fn tell(rt: &impl Abort, back: &mut Back, given: BackAnswer) -> Option<BackTold> {
     let _ = back.take_told();
     let allowed = match (back.ask(), &given) {
         (BackAsk::Wait, BackAnswer::Event) => true,
@@ -65,7 +65,7 @@ fn complete(rt: &impl Abort, back: &mut Back, given: BackAnswer) -> Option<BackT
         _ => false,
     };
     holds(rt, allowed);
-    back.complete(&given).expect(rt, "memory");
+    back.tell(&given).expect(rt, "memory");
     back.take_told()
 }
 
@@ -104,7 +104,7 @@ fn halts(back: &mut Back, why: Why) {
 // It asks this, and is told this.
 fn does(rt: &impl Abort, back: &mut Back, asks: Ask, answer: Answer) {
     same(rt, ask(back), asked(asks));
-    let _ = complete(rt, back, given(answer));
+    let _ = tell(rt, back, given(answer));
 }
 
 fn reads_zeros(rt: &impl Abort, back: &mut Back, mapping: Mapping, (first, end): (u32, u32)) {
@@ -114,7 +114,7 @@ fn reads_zeros(rt: &impl Abort, back: &mut Back, mapping: Mapping, (first, end):
 }
 
 fn replies(rt: &impl Abort, back: &mut Back, id: u64, status: Status) {
-    let told = complete(rt, back, BackAnswer::Done);
+    let told = tell(rt, back, BackAnswer::Done);
     same(rt, told, Some(BackTold::Reply { id, status }));
 }
 
@@ -123,7 +123,7 @@ fn takes(rt: &impl Abort, back: &mut Back, step: &Step) {
         Step::Attaches(abi, order, grefs) => attach(back, abi, order, grefs),
         Step::Asks(wanted) => same(rt, ask(back), asked(wanted)),
         Step::Told(answer) => {
-            let _ = complete(rt, back, given(answer));
+            let _ = tell(rt, back, given(answer));
         }
         Step::Does(asks) => does(rt, back, asks, Answer::Done),
         Step::Maps(page) => does(

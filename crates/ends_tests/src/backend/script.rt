@@ -2,8 +2,9 @@
 // the calls that play them promise nothing, and are proved once.
 use crate::asks::{Answer, Ask, Why, asked, given, halt};
 use crate::expected::{holds, same};
-use blk_back::Halt;
-use blk_base::{Abi, BackAnswer, BackAsk, Config, Endpoint, Lent, Mapping, OutOfMemory, ShortText};
+use blk_base::{
+    Abi, BackAnswer, BackAsk, Config, Endpoint, Halt, Lent, Mapping, OutOfMemory, ShortText,
+};
 use std::alloc::Global;
 use std::process::Abort;
 use vbd_back::Backend;
@@ -80,8 +81,8 @@ fn halted(backend: &Backend) -> Option<Halt> {
     backend.halted()
 }
 
-// Completes what the backend asks by an answer of that kind.
-fn complete(rt: &impl Abort, backend: &mut Backend, given: BackAnswer) {
+// Answers what the backend asks with an answer of that kind.
+fn tell(rt: &impl Abort, backend: &mut Backend, given: BackAnswer) {
     let _ = backend.take_told();
     let allowed = match (backend.ask(), &given) {
         (BackAsk::Wait, BackAnswer::Event | BackAnswer::Watched(_)) => true,
@@ -98,18 +99,18 @@ fn complete(rt: &impl Abort, backend: &mut Backend, given: BackAnswer) {
         _ => false,
     };
     holds(rt, allowed);
-    backend.complete(&given).expect(rt, "memory");
+    backend.tell(&given).expect(rt, "memory");
 }
 
 fn told_each(rt: &impl Abort, backend: &mut Backend, answer: Answer, count: u32) {
     for _ in 0..count {
-        complete(rt, backend, given(answer));
+        tell(rt, backend, given(answer));
     }
 }
 
 fn does(rt: &impl Abort, backend: &mut Backend, asks: Ask, answer: Answer) {
     same(rt, ask(backend), asked(asks));
-    complete(rt, backend, given(answer));
+    tell(rt, backend, given(answer));
 }
 
 // Whether it sets this key to this text.
@@ -124,37 +125,37 @@ fn is_set(backend: &Backend, path: &str, text: &str) -> bool {
 
 fn sets(rt: &impl Abort, backend: &mut Backend, path: &str, text: &str) {
     assert!(rt; is_set(backend, path, text), "{path}");
-    complete(rt, backend, BackAnswer::Done);
+    tell(rt, backend, BackAnswer::Done);
 }
 
 fn gets(rt: &impl Abort, backend: &mut Backend, path: &str, text: &str) {
     let (path, text) = (short(path), short(text));
     same(rt, ask(backend), BackAsk::GetKey(Lent::at(&path)));
-    complete(rt, backend, BackAnswer::Key(Some(Lent::at(&text))));
+    tell(rt, backend, BackAnswer::Key(Some(Lent::at(&text))));
 }
 
 fn misses(rt: &impl Abort, backend: &mut Backend, path: &str) {
     let path = short(path);
     same(rt, ask(backend), BackAsk::GetKey(Lent::at(&path)));
-    complete(rt, backend, BackAnswer::Key(None));
+    tell(rt, backend, BackAnswer::Key(None));
 }
 
 fn watches(rt: &impl Abort, backend: &mut Backend, path: &str) {
     let path = short(path);
     same(rt, ask(backend), BackAsk::Watch(Lent::at(&path)));
     holds(rt, !waits(backend) && !idle(backend));
-    complete(rt, backend, BackAnswer::Done);
+    tell(rt, backend, BackAnswer::Done);
 }
 
 fn watched(rt: &impl Abort, backend: &mut Backend) {
     let path = short(FRONT_STATE);
-    complete(rt, backend, BackAnswer::Watched(Lent::at(&path)));
+    tell(rt, backend, BackAnswer::Watched(Lent::at(&path)));
 }
 
 fn takes(rt: &impl Abort, backend: &mut Backend, step: &Step) {
     match *step {
         Step::Asks(wanted) => same(rt, ask(backend), asked(wanted)),
-        Step::Told(answer) => complete(rt, backend, given(answer)),
+        Step::Told(answer) => tell(rt, backend, given(answer)),
         Step::ToldEach(answer, count) => told_each(rt, backend, answer, count),
         Step::Does(asks) => does(rt, backend, asks, Answer::Done),
         Step::Maps(page) => does(

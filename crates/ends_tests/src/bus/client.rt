@@ -36,31 +36,31 @@ fn take(keys: &mut Keys, who: End) -> Option<&Path> {
 fn move_front(rt: &impl Abort, front: &mut FrontBus, keys: &mut Keys) -> Option<FrontNews> {
     match front.ask(true) {
         FrontBusAsk::Wait => match take(keys, End::Front) {
-            Some(path) => front.complete(true, &FrontAnswer::Watched(Lent::at(path))),
+            Some(path) => front.tell(true, &FrontAnswer::Watched(Lent::at(path))),
             None => None,
         },
         FrontBusAsk::Watch => {
             watch(rt, keys, End::Front, &state_path(End::Back));
-            front.complete(true, &FrontAnswer::Done)
+            front.tell(true, &FrontAnswer::Done)
         }
         FrontBusAsk::GetState => {
             let text = read(keys, &state_path(End::Back));
-            front.complete(true, &FrontAnswer::Key(text))
+            front.tell(true, &FrontAnswer::Key(text))
         }
         FrontBusAsk::GetKey(key) => {
             let text = read(keys, &back_path(key));
-            front.complete(true, &FrontAnswer::Key(text))
+            front.tell(true, &FrontAnswer::Key(text))
         }
         FrontBusAsk::SetState(state) => {
             write(rt, keys, End::Front, &state_path(End::Front), &state.text());
-            front.complete(true, &FrontAnswer::Done)
+            front.tell(true, &FrontAnswer::Done)
         }
         FrontBusAsk::SetKey(key, value) => {
             write(rt, keys, End::Front, &front_path(key), &value.text());
-            front.complete(true, &FrontAnswer::Done)
+            front.tell(true, &FrontAnswer::Done)
         }
-        FrontBusAsk::NewPort => front.complete(true, &FrontAnswer::Port(1)),
-        _ => front.complete(true, &FrontAnswer::Done),
+        FrontBusAsk::NewPort => front.tell(true, &FrontAnswer::Port(1)),
+        _ => front.tell(true, &FrontAnswer::Done),
     }
 }
 
@@ -68,35 +68,35 @@ fn move_front(rt: &impl Abort, front: &mut FrontBus, keys: &mut Keys) -> Option<
 fn move_back(rt: &impl Abort, back: &mut BackBus, keys: &mut Keys) -> Option<BackHalt> {
     match back.ask() {
         BackBusAsk::Wait => match take(keys, End::Back) {
-            Some(path) => back.complete(&BackAnswer::Watched(Lent::at(path))),
+            Some(path) => back.tell(&BackAnswer::Watched(Lent::at(path))),
             None => None,
         },
         BackBusAsk::Watch => {
             watch(rt, keys, End::Back, &state_path(End::Front));
-            back.complete(&BackAnswer::Done)
+            back.tell(&BackAnswer::Done)
         }
         BackBusAsk::GetState => {
             let text = read(keys, &state_path(End::Front));
-            back.complete(&BackAnswer::Key(text))
+            back.tell(&BackAnswer::Key(text))
         }
         BackBusAsk::GetKey(key) => {
             let text = read(keys, &front_path(key));
-            back.complete(&BackAnswer::Key(text))
+            back.tell(&BackAnswer::Key(text))
         }
         BackBusAsk::SetState(state) => {
             write(rt, keys, End::Back, &state_path(End::Back), &state.text());
-            back.complete(&BackAnswer::Done)
+            back.tell(&BackAnswer::Done)
         }
         BackBusAsk::SetKey(key, value) => {
             write(rt, keys, End::Back, &back_path(key), &value.text());
-            back.complete(&BackAnswer::Done)
+            back.tell(&BackAnswer::Done)
         }
-        BackBusAsk::Map(gref) => back.complete(&BackAnswer::Mapped(Mapping {
+        BackBusAsk::Map(gref) => back.tell(&BackAnswer::Mapped(Mapping {
             number: u64::from(gref),
             gref,
             mode: Mode::ReadWrite,
         })),
-        _ => back.complete(&BackAnswer::Done),
+        _ => back.tell(&BackAnswer::Done),
     }
 }
 

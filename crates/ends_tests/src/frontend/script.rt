@@ -6,9 +6,10 @@ ghost use Rattle.vbd_front.specs.Ask.{IsAnswer};
 use crate::expected::{holds, same};
 use arrayvec::ArrayString;
 use blk_base::{
-    Abi, Config, End, Endpoint, FrontAnswer, FrontAsk, Job, Lent, Path, SectorCount, Status, Text,
+    Abi, Config, End, Endpoint, FrontAnswer, FrontAsk, Lent, Path, Refusal, SectorCount, Status,
+    Submission, Text,
 };
-use blk_front::{Refusal, Told};
+use blk_front::Told;
 use std::alloc::Global;
 use std::process::Abort;
 use vbd_front::Frontend;
@@ -174,7 +175,7 @@ fn owed(front: &Frontend) -> (u32, u64) {
     front.owed()
 }
 
-fn submit(front: &mut Frontend, job: Job) -> Result<u32, Refusal> {
+fn submit(front: &mut Frontend, job: Submission) -> Result<u32, Refusal> {
     front.submit(job)
 }
 
@@ -182,7 +183,7 @@ fn submit(front: &mut Frontend, job: Job) -> Result<u32, Refusal> {
 fn moves(rt: &impl Abort, front: &mut Frontend, other: &Other) -> News {
     same(rt, front.take_told(), (None, None));
     let answer = other.answer(&front.ask()).expect(rt, "never asked");
-    front.complete(&answer).expect(rt, "memory");
+    front.tell(&answer).expect(rt, "memory");
     front.take_told()
 }
 
@@ -283,7 +284,7 @@ fn submit_write(rt: &impl Abort, front: &mut Frontend) -> Result<u32, Refusal> {
     let count = SectorCount::new(1).expect(rt, "a count above 0");
     submit(
         front,
-        Job::Write {
+        Submission::Write {
             sector: 0,
             count,
             tag: 7,
@@ -294,7 +295,7 @@ fn submit_write(rt: &impl Abort, front: &mut Frontend) -> Result<u32, Refusal> {
 // A read of sector 0.
 fn submit_read(rt: &impl Abort, front: &mut Frontend) -> Result<u32, Refusal> {
     let count = SectorCount::new(1).expect(rt, "a count above 0");
-    submit(front, Job::Read { sector: 0, count })
+    submit(front, Submission::Read { sector: 0, count })
 }
 
 fn closes(rt: &impl Abort, front: &mut Frontend) {

@@ -167,11 +167,11 @@ fn count(jobs: &Jobs) -> usize {
 }
 
 fn abort(jobs: &mut Jobs) -> Option<Mapping> {
-    jobs.abort()
+    jobs.give_up()
 }
 
-// Completes what a job asks by an answer of that kind.
-fn complete(rt: &impl Abort, jobs: &mut Jobs, number: u64, given: BackAnswer) -> Option<Effect> {
+// Answers what a job asks with an answer of that kind.
+fn tell(rt: &impl Abort, jobs: &mut Jobs, number: u64, given: BackAnswer) -> Option<Effect> {
     let allowed = match (jobs.ask(number), &given) {
         (BackAsk::Map { gref, mode }, BackAnswer::Mapped(m)) => m.gref == gref && m.mode == mode,
         (BackAsk::Map { .. }, BackAnswer::MapRefused(_)) => true,
@@ -187,11 +187,11 @@ fn complete(rt: &impl Abort, jobs: &mut Jobs, number: u64, given: BackAnswer) ->
         _ => false,
     };
     holds(rt, allowed);
-    jobs.complete(number, &given)
+    jobs.tell(number, &given)
 }
 
 fn told(rt: &impl Abort, jobs: &mut Jobs, number: u64, answer: Answer) {
-    let _ = complete(rt, jobs, number, given(answer));
+    let _ = tell(rt, jobs, number, given(answer));
 }
 
 // Job 1 asks this, and is told this.
@@ -217,7 +217,7 @@ fn disk_writes(rt: &impl Abort, jobs: &Jobs, sector: u64) {
 
 fn writes_words(rt: &impl Abort, jobs: &mut Jobs, sector: u32) {
     let words = [9; 128];
-    let _ = complete(rt, jobs, 1, BackAnswer::Sector(Lent::at(&words)));
+    let _ = tell(rt, jobs, 1, BackAnswer::Sector(Lent::at(&words)));
     for k in 0..128u32 {
         let word = sector.wrapping_mul(128).wrapping_add(k);
         does(rt, jobs, Ask::Write(FRAME, word, 9), Answer::Done);
@@ -260,7 +260,7 @@ fn takes(rt: &impl Abort, jobs: &mut Jobs, step: &Step) {
         Step::Asks(wanted) => same(rt, ask(jobs, 1), asked(wanted)),
         Step::Told(answer) => told(rt, jobs, 1, answer),
         Step::ToldTo(number, answer) => told(rt, jobs, number, answer),
-        Step::Tells(answer, effect) => same(rt, complete(rt, jobs, 1, given(answer)), Some(effect)),
+        Step::Tells(answer, effect) => same(rt, tell(rt, jobs, 1, given(answer)), Some(effect)),
         Step::ReadsWords(sector) => reads_words(rt, jobs, sector),
         Step::DiskWrites(sector) => disk_writes(rt, jobs, sector),
         Step::WritesWords(sector) => writes_words(rt, jobs, sector),

@@ -1,7 +1,6 @@
 // What the front makes of a back's responses, right and wrong ones.
 use super::script::{Ask, EIGHT, News, Step, Work, plays, plays_after};
-use blk_base::{Config, Status};
-use blk_front::Refusal;
+use blk_base::{Config, Refusal, Status};
 use std::alloc::Global;
 use std::process::Abort;
 

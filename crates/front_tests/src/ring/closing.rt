@@ -1,6 +1,7 @@
 // How the front closes and leaves.
 use super::script::{Ask, EIGHT, News, Step, Work, plays};
-use blk_front::{FrontState, Refusal};
+use blk_base::Refusal;
+use blk_front::FrontState;
 
 // The first word of the ring's grant entry is read.
 const LOOK: Ask = Ask::Read(0, 16);

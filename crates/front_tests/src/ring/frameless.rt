@@ -1,7 +1,7 @@
 // Flushes and discards, which have no frames, and barriers, which have them.
 use super::script::{Ask, EIGHT, NOTHING, News, Step, Work, plays};
-use blk_base::Status;
-use blk_front::{Offers, Refusal};
+use blk_base::{Refusal, Status};
+use blk_front::Offers;
 
 // The first request is pushed.
 const PUSH: [Ask; 4] = [Ask::Write(2, 0, 1), Ask::Fence, Ask::Read(2, 1), Ask::Send];

@@ -4,10 +4,12 @@
 ghost use Rattle.std.specs.Prelude.{IfSome};
 ghost use Rattle.blk_front.specs.Ask.{IsAnswer};
 
-use super::script::{Ask, Work};
+use super::script::{Ask, NOTHING, Work};
 use crate::expected::{holds, same};
-use blk_base::{Config, Endpoint, FrontAnswer, FrontAsk, Job, OutOfMemory, SectorCount};
-use blk_front::{Front, FrontState, Refusal, Told};
+use blk_base::{
+    Config, Endpoint, FrontAnswer, FrontAsk, OutOfMemory, Refusal, SectorCount, Submission,
+};
+use blk_front::{Front, FrontState, Offers, Told};
 use std::alloc::Global;
 use std::process::Abort;
 
@@ -86,24 +88,24 @@ fn asked(ask: Ask) -> FrontAsk<'static> {
 }
 
 // The job that is to be done; `None` where it has no sector.
-fn job(work: Work) -> Option<Job> {
+fn job(work: Work) -> Option<Submission> {
     let job = match work {
-        Work::Read(sector, count) => Job::Read {
+        Work::Read(sector, count) => Submission::Read {
             sector,
             count: SectorCount::new(count)?,
         },
-        Work::Write(sector, count, tag) => Job::Write {
-            sector,
-            count: SectorCount::new(count)?,
-            tag,
-        },
-        Work::Barrier(sector, count, tag) => Job::Barrier {
+        Work::Write(sector, count, tag) => Submission::Write {
             sector,
             count: SectorCount::new(count)?,
             tag,
         },
-        Work::Flush => Job::Flush,
-        Work::Discard(sector, count) => Job::Discard {
+        Work::Barrier(sector, count, tag) => Submission::Barrier {
+            sector,
+            count: SectorCount::new(count)?,
+            tag,
+        },
+        Work::Flush => Submission::Flush,
+        Work::Discard(sector, count) => Submission::Discard {
             sector,
             count: SectorCount::new(count)?,
         },
@@ -111,11 +113,12 @@ fn job(work: Work) -> Option<Job> {
     Some(job)
 }
 
-/// A front and its guest's memory.
+/// A front and its guest's memory, and the disk that it is configured with.
 #[derive(Drop)]
 pub struct Guest {
     front: Front,
     memory: Memory,
+    disk: Offers,
 }
 
 impl Guest {
@@ -124,11 +127,21 @@ impl Guest {
         Guest {
             front: Front::new(alloc, config).expect(rt, "memory"),
             memory: Memory::new(alloc).expect(rt, "memory"),
+            disk: Offers {
+                sectors: config.sectors,
+                read_only: config.read_only,
+                ..NOTHING
+            },
         }
     }
 
     pub fn submit(&mut self, rt: &impl Abort, work: Work) -> Result<u32, Refusal> {
         self.front.submit(job(work).expect(rt, "a count above 0"))
+    }
+
+    /// A back of the disk that the guest is configured with, which serves reads and writes alone.
+    pub fn disk(&self) -> Offers {
+        self.disk
     }
 
     pub fn enter(&mut self, state: FrontState) -> bool {
@@ -185,6 +198,6 @@ impl Guest {
         same(rt, self.front.take_told(), None);
         let ask = self.front.ask();
         let answer = self.memory.answer(&ask).expect(rt, "never asked");
-        self.front.complete(&answer).expect(rt, "memory");
+        self.front.tell(&answer).expect(rt, "memory");
     }
 }

@@ -1,7 +1,7 @@
 // Reads and writes whose segments lie in indirect pages (`BLKIF_OP_INDIRECT`).
 use super::script::{Ask, EIGHT, News, Step, Work, plays};
-use blk_base::{Config, Status};
-use blk_front::{Offers, Refusal};
+use blk_base::{Config, Refusal, Status};
+use blk_front::Offers;
 
 // The entry of a write of 89 sectors from sector 5 on with id 1: twelve segments, which the page of
 // reference 36 names; zeros follow.
@@ -13,8 +13,10 @@ const LARGE: Config = Config {
     ..EIGHT
 };
 
-// A back that takes 256 segments in indirect pages.
+// A back of that disk that takes 256 segments in indirect pages.
 const OFFERS: Offers = Offers {
+    sectors: 3000,
+    read_only: false,
     barrier: true,
     flush: false,
     discard: false,

@@ -1,7 +1,6 @@
 // Requests of several sectors: eight to a frame, and a segment for each frame.
 use super::script::{Ask, Data, EIGHT, News, Step, Work, plays};
-use blk_base::{Config, Status};
-use blk_front::Refusal;
+use blk_base::{Config, Refusal, Status};
 
 // The word of each sector of a write of nine sectors whose tag is the first.
 const WORDS: [u32; 9] = [

@@ -2,8 +2,8 @@
 // one call over an array of steps; the calls that play them are proved once.
 use super::guest::Guest;
 use crate::expected::{holds, same};
-use blk_base::{Abi, Config, Status};
-use blk_front::{FrontState, Offers, Refusal, Told};
+use blk_base::{Abi, Config, Refusal, Status};
+use blk_front::{FrontState, Offers, Told};
 use std::alloc::Global;
 use std::process::Abort;
 
@@ -96,7 +96,7 @@ pub enum Step<'a> {
     /// The front may enter a state, or may not.
     Enters(FrontState, bool),
     /// The moves that grant the ring's pages and make the port, so many before the last; then it enters
-    /// Connected.
+    /// Connected, over a back of the disk that the guest is configured with.
     Connects(u32),
     /// The same where the ring has one page, and the back serves these.
     Offered(Offers),
@@ -118,8 +118,11 @@ pub enum Step<'a> {
     Responds(u32, [u32; 3]),
 }
 
-/// A back that serves reads and writes alone, of the segments that an entry has room for.
+/// A back of a disk of 8 sectors that serves reads and writes alone, of the segments that an entry has
+/// room for.
 pub const NOTHING: Offers = Offers {
+    sectors: 8,
+    read_only: false,
     barrier: false,
     flush: false,
     discard: false,
@@ -308,7 +311,8 @@ fn told_soon(rt: &impl Abort, guest: &mut Guest, wanted: News) {
 fn connects(rt: &impl Abort, guest: &mut Guest, moves: u32) {
     quiet_moves(rt, guest, moves);
     asks(rt, guest, Ask::NewPort);
-    holds(rt, guest.enter(FrontState::Connected(NOTHING)));
+    let disk = guest.disk();
+    holds(rt, guest.enter(FrontState::Connected(disk)));
 }
 
 fn offered(rt: &impl Abort, guest: &mut Guest, offers: Offers) {

@@ -1,7 +1,7 @@
 // Rings of several pages, and of 32-bit guests.
 use super::script::{Ask, EIGHT, Step, Work, plays};
-use blk_base::{Abi, Config};
-use blk_front::{FrontState, Refusal};
+use blk_base::{Abi, Config, Refusal};
+use blk_front::FrontState;
 
 // The entry of a write of sector 0 with id 1 under the layout of 32-bit guests, whose data are granted
 // by reference 24, up to its first two words of zeros.

@@ -1,7 +1,8 @@
 // What the front keeps over a suspend, and does after it.
 use super::reads::ANSWERED;
 use super::script::{Ask, Data, EIGHT, News, Step, Work, plays, plays_after};
-use blk_front::{FrontState, Refusal};
+use blk_base::Refusal;
+use blk_front::FrontState;
 
 #[test]
 fn data_in_hand_go_on_at_the_very_word_before_the_ring_is_made_anew(rt: HostRuntime) {

@@ -9,6 +9,7 @@ ghost use Rattle.hypervisor.specs.Hypervisor.{Hypervisor};
 ghost use Rattle.hypervisor.specs.Act.{back_act, back_seen, back_under, back_with_move, outcome_of, outcome_told, with_pages, IsGiven, read_act, disk_act, wait_act, get_act, set_act, watch_act, back_watched, watch_next};
 ghost use Rattle.hypervisor.specs.Act.Outcome.{Took};
 ghost use Rattle.hypervisor.specs.May.{BackMay, BackTakesMemory, IsCall, MayShow, HasMappingLeft};
+ghost use Rattle.hypervisor.specs.Does.{BackDoes};
 ghost use Rattle.hypervisor.specs.Disk.{DiskDoes, DiskReads, DiskWrites, DiskFlushes, DiskTrims};
 
 use super::{Hypervisor, Room};
@@ -32,14 +33,7 @@ impl Hypervisor {
         room: &'a mut Room,
     ) -> Result<Option<BackAnswer<'a>>, OutOfMemory>
         requires may { BackMay self.old (attached_of (D.seen disk.old)) ask.now }
-        ensures acted { IfOk result (λ answer. back_with_move self.new who ask.now answer ≡ back_seen (back_act self.old who ask.now (outcome_of answer))) }
-        ensures under { IfOk result (λ answer. self.new ≡ back_under self.old (back_act self.old who ask.now (outcome_of answer))) }
-        ensures may_show { IfOk result (λ answer. IfSome answer (λ a. MayShow self.new ask.now a)) }
-        ensures given { IfOk result (λ answer. IsGiven (outcome_of answer)) }
-        ensures disk { IfOk result (λ answer. DiskDoes ask.now (outcome_of answer) (D.seen disk.old) (D.seen disk.new)) }
-        ensures unchanged { OnErr result (self.new ≡ self.old) }
-        ensures untouched { OnErr result (D.seen disk.new ≡ D.seen disk.old) }
-        ensures memory { OnErr result (BackTakesMemory ask.now) }
+        ensures { BackDoes who ask.now result self.old self.new (D.seen disk.old) (D.seen disk.new) }
     {
         match ask {
             BackAsk::Wait => Ok(self.event(who, room)),
@@ -70,14 +64,7 @@ impl Hypervisor {
     ) -> Result<Option<BackAnswer<'a>>, OutOfMemory>
         requires may { BackMay self.old (attached_of (D.seen disk.old)) ask.now }
         requires call { IsCall ask.now }
-        ensures acted { IfOk result (λ answer. back_with_move self.new who ask.now answer ≡ back_seen (back_act self.old who ask.now (outcome_of answer))) }
-        ensures under { IfOk result (λ answer. self.new ≡ back_under self.old (back_act self.old who ask.now (outcome_of answer))) }
-        ensures may_show { IfOk result (λ answer. IfSome answer (λ a. MayShow self.new ask.now a)) }
-        ensures given { IfOk result (λ answer. IsGiven (outcome_of answer)) }
-        ensures disk { IfOk result (λ answer. DiskDoes ask.now (outcome_of answer) (D.seen disk.old) (D.seen disk.new)) }
-        ensures unchanged { OnErr result (self.new ≡ self.old) }
-        ensures untouched { OnErr result (D.seen disk.new ≡ D.seen disk.old) }
-        ensures memory { OnErr result (BackTakesMemory ask.now) }
+        ensures { BackDoes who ask.now result self.old self.new (D.seen disk.old) (D.seen disk.new) }
     {
         match ask {
             BackAsk::Map { gref, mode } => Ok(Some(self.map(*gref, *mode))),

@@ -8,17 +8,17 @@ ghost use Rattle.plain_disk.specs.Stands.{Steps};
 use super::{PlainDisk, Stand};
 use crate::looking;
 use crate::request::{DiskRequest, Noted, Place, RequestStage, Written};
-use blk_base::{Job, OutOfMemory, SectorWords, Status};
+use blk_base::{OutOfMemory, SectorWords, Status, Submission};
 
 impl PlainDisk {
-    pub(super) fn submit(&mut self, id: u64, job: Job) -> Result<Stand, OutOfMemory>
-        ensures stands { Steps (submitted_of self.old id job) result self.old self.new }
+    pub(super) fn submit(&mut self, id: u64, submission: Submission) -> Result<Stand, OutOfMemory>
+        ensures stands { Steps (submitted_of self.old id submission) result self.old self.new }
     {
         if id == 0 || id - 1 != self.requests.len() as u64 {
             return Ok(Stand::Falls);
         }
         self.requests.push(DiskRequest {
-            job,
+            submission,
             faulted: false,
             reply: None,
             stage: RequestStage::Open,
@@ -35,7 +35,7 @@ impl PlainDisk {
         looking::are_settled(
             self.done.as_slice(),
             &self.requests[..before],
-            looking::is_barrier(&r.job),
+            looking::is_barrier(&r.submission),
         )
     }
 
@@ -59,14 +59,17 @@ impl PlainDisk {
         let Some(r) = looking::request_of(self.requests.as_slice(), id) else {
             return Ok(Stand::Falls);
         };
-        if !looking::is_write(&r.job)
+        if !looking::is_write(&r.submission)
             || !looking::may_serve(self.done.as_slice(), id, &r, index)
             || !self.is_in_order(id, &r)
         {
             return Ok(Stand::Falls);
         }
-        let words = looking::filling(&r.job, index);
-        self.serve(Place { id, index }, one_sector(&r.job, index, Some(words)))?;
+        let words = looking::filling(&r.submission, index);
+        self.serve(
+            Place { id, index },
+            one_sector(&r.submission, index, Some(words)),
+        )?;
         Ok(Stand::Stands)
     }
 
@@ -84,17 +87,20 @@ impl PlainDisk {
         let at = looking::place_words(
             self.first.as_slice(),
             self.written.as_slice(),
-            &r.job,
+            &r.submission,
             index,
         );
-        if !looking::is_read(&r.job)
+        if !looking::is_read(&r.submission)
             || !looking::may_serve(self.done.as_slice(), id, &r, index)
             || !looking::may_hold(&at, &words)
         {
             return Ok(Stand::Falls);
         }
         self.noted.push(Noted { id, index, words })?;
-        match self.serve(Place { id, index }, one_sector(&r.job, index, Some(words))) {
+        match self.serve(
+            Place { id, index },
+            one_sector(&r.submission, index, Some(words)),
+        ) {
             Ok(()) => Ok(Stand::Stands),
             Err(OutOfMemory) => {
                 let _ = self.noted.pop();
@@ -109,7 +115,9 @@ impl PlainDisk {
         let Some(r) = looking::request_of(self.requests.as_slice(), id) else {
             return Ok(Stand::Falls);
         };
-        if !looking::is_flush(&r.job) || !looking::may_serve(self.done.as_slice(), id, &r, 0) {
+        if !looking::is_flush(&r.submission)
+            || !looking::may_serve(self.done.as_slice(), id, &r, 0)
+        {
             return Ok(Stand::Falls);
         }
         self.done.push(Place { id, index: 0 })?;
@@ -122,14 +130,17 @@ impl PlainDisk {
         let Some(r) = looking::request_of(self.requests.as_slice(), id) else {
             return Ok(Stand::Falls);
         };
-        if !looking::is_discard(&r.job)
+        if !looking::is_discard(&r.submission)
             || !looking::may_serve(self.done.as_slice(), id, &r, 0)
             || !self.is_in_order(id, &r)
         {
             return Ok(Stand::Falls);
         }
-        let words = looking::filling(&r.job, 0);
-        self.serve(Place { id, index: 0 }, all_sectors(&r.job, Some(words)))?;
+        let words = looking::filling(&r.submission, 0);
+        self.serve(
+            Place { id, index: 0 },
+            all_sectors(&r.submission, Some(words)),
+        )?;
         Ok(Stand::Stands)
     }
 
@@ -140,14 +151,14 @@ impl PlainDisk {
             return Ok(Stand::Falls);
         };
         if !looking::may_serve(self.done.as_slice(), id, &r, index)
-            || (looking::is_ordered(&r.job) && !self.is_in_order(id, &r))
+            || (looking::is_ordered(&r.submission) && !self.is_in_order(id, &r))
         {
             return Ok(Stand::Falls);
         }
-        if looking::is_write(&r.job) {
-            self.written.push(one_sector(&r.job, index, None))?;
-        } else if looking::is_discard(&r.job) {
-            self.written.push(all_sectors(&r.job, None))?;
+        if looking::is_write(&r.submission) {
+            self.written.push(one_sector(&r.submission, index, None))?;
+        } else if looking::is_discard(&r.submission) {
+            self.written.push(all_sectors(&r.submission, None))?;
         }
         self.requests[(id - 1) as usize].faulted = true;
         Ok(Stand::Stands)
@@ -172,7 +183,8 @@ impl PlainDisk {
     {
         match status {
             Status::Okay => {
-                looking::done_count(self.done.as_slice(), id) == looking::places_of(&r.job) as usize
+                looking::done_count(self.done.as_slice(), id)
+                    == looking::places_of(&r.submission) as usize
             }
             Status::Error => r.faulted,
             Status::Unsupported => false,
@@ -188,7 +200,7 @@ impl PlainDisk {
         if !looking::is_open(r.stage) || !looking::is_status(r.reply, status) {
             return Ok(Stand::Falls);
         }
-        self.requests[(id - 1) as usize].stage = looking::told_stage(&r.job, status);
+        self.requests[(id - 1) as usize].stage = looking::told_stage(&r.submission, status);
         Ok(Stand::Stands)
     }
 
@@ -207,7 +219,7 @@ impl PlainDisk {
         if !looking::is_next(r.stage, index) || !looking::are_noted(&noted, &words) {
             return Ok(Stand::Falls);
         }
-        self.requests[(id - 1) as usize].stage = looking::next_stage(&r.job, index);
+        self.requests[(id - 1) as usize].stage = looking::next_stage(&r.submission, index);
         Ok(Stand::Stands)
     }
 
@@ -230,11 +242,11 @@ impl PlainDisk {
 }
 
 // What the sector of a request's place holds from now on.
-fn one_sector(job: &Job, index: u32, words: Option<SectorWords>) -> Written
-    ensures { result ≡ one_sector job.now index words }
+fn one_sector(submission: &Submission, index: u32, words: Option<SectorWords>) -> Written
+    ensures { result ≡ one_sector submission.now index words }
 {
     Written {
-        sector: looking::sector_of(job),
+        sector: looking::sector_of(submission),
         from: index,
         count: 1,
         words,
@@ -242,13 +254,13 @@ fn one_sector(job: &Job, index: u32, words: Option<SectorWords>) -> Written
 }
 
 // What all sectors of a request hold from now on.
-fn all_sectors(job: &Job, words: Option<SectorWords>) -> Written
-    ensures { result ≡ all_sectors job.now words }
+fn all_sectors(submission: &Submission, words: Option<SectorWords>) -> Written
+    ensures { result ≡ all_sectors submission.now words }
 {
     Written {
-        sector: looking::sector_of(job),
+        sector: looking::sector_of(submission),
         from: 0,
-        count: looking::count_of(job),
+        count: looking::count_of(submission),
         words,
     }
 }

@@ -10,4 +10,4 @@ pub returns-clause-ended : goal.returns-clause-ended
 returns-clause-ended c config detail history are possible = ended_ruled config detail history are possible
 
 pub returns-clause-before : goal.returns-clause-before
-returns-clause-before c jobs first more are = obeys_before (IsRuledAt jobs) first more are
+returns-clause-before c submissions first more are = obeys_before (IsRuledAt submissions) first more are

@@ -3,7 +3,7 @@ ghost use Rattle.std.specs.Prelude.{◌≡◌, ◌≤◌, ◌∷◌, [], OnErr, 
 ghost use Rattle.blk_io.specs.Disk.{attached_of};
 ghost use Rattle.vbd_model.specs.Leads.{moment};
 ghost use Rattle.schedule_run.specs.Reading.{IsLineOf, IsBadLine};
-ghost use Rattle.schedule_run.specs.Carrying.{read_so_far, IsFresh, IsReadyToTake, Feeds, Finishes, Takes, ReadsAll};
+ghost use Rattle.schedule_run.specs.Carrying.{read_so_far, IsFresh, IsReadyToTake, Feeds, Finishes, Takes, ReadsHandedOn, ReadsAll};
 
 use super::{RunStop, stop_of};
 use crate::machine::{Machine, can_carry_out};
@@ -33,7 +33,7 @@ impl Reader {
     ) -> Result<(), RunStop>
         requires limit { bytes_limit ≤ 4294967296 }
         requires fresh { IsFresh (read_so_far self.old.machine self.old.part.items self.old.lines (D.seen disk.old) (R.seen recorder.old)) }
-        requires attached { attached_of (D.seen disk.old) ≡ Some self.old.machine.world.rings.front.sectors }
+        requires attached { attached_of (D.seen disk.old) ≡ Some self.old.machine.world.rings.back.jobs.info.sectors }
         ensures { ReadsAll bytes_limit result (S.seen source.old) (S.seen source.new)
             (moment self.old.machine.world (D.seen disk.old) (R.seen recorder.old))
             (moment self.new.machine.world (D.seen disk.new) (R.seen recorder.new)) }
@@ -41,14 +41,10 @@ impl Reader {
         let mut piece = [0; PIECE];
         let mut room = bytes_limit;
         while room > 0 {
-            // Whoever gives the lines as the report comes has all of it before he is waited for.
-            if recorder.flush().is_err() {
-                return Err(RunStop::Sink);
-            }
             let most = room.min(PIECE as u64) as usize;
-            let count = match source.read(&mut piece[..most]) {
+            let count = match read_handed_on(&mut piece[..most], source, recorder) {
                 Ok(count) => count,
-                Err(Failed) => return Err(RunStop::Source),
+                Err(stop) => return Err(stop),
             };
             if count == 0 {
                 return self.end(disk, recorder);
@@ -157,5 +153,24 @@ fn line_event(line: &[u8]) -> Result<Option<Event>, BadLine>
                 Err(BadLine)
             }
         }
+    }
+}
+
+/// Has the recorder hand on what it keeps back, and then reads some of the source: whoever gives the
+/// lines as the report comes has all of it before he is waited for. It stops with `Sink` where the
+/// recorder failed, with nothing read, and with `Source` where the source did.
+pub fn read_handed_on<S: Source, R: Recorder>(
+    piece: &mut [u8],
+    source: &mut S,
+    recorder: &mut R,
+) -> Result<usize, RunStop>
+    ensures { ReadsHandedOn piece.new result (S.seen source.old) (S.seen source.new) (R.seen recorder.old) (R.seen recorder.new) }
+{
+    if recorder.flush().is_err() {
+        return Err(RunStop::Sink);
+    }
+    match source.read(piece) {
+        Ok(count) => Ok(count),
+        Err(Failed) => Err(RunStop::Source),
     }
 }

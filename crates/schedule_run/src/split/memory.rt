@@ -10,9 +10,9 @@ ghost use Rattle.vbd_model.specs.Leads.{Goes, Is, moment};
 
 use super::Split;
 use arrayvec::ArrayString;
-use blk_base::{End, FrontAsk, Lent, Path, ShortText, Text};
+use blk_base::{End, FrontAsk, KeyName, Lent, Path, ShortText, Text};
 use key_directory::directory_of;
-use schedule_text::{KeyName, Line, RecordStop, Recorder};
+use schedule_text::{Line, RecordStop, Recorder};
 
 // The frame of the ring's first page.
 const RING_FRAME: u32 = 2;

@@ -6,7 +6,7 @@ ghost use Rattle.vbd_model.specs.Kind.{is_carried};
 
 use super::report::{attached, plain_config, zeros};
 use crate::expected::{holds, same};
-use blk_base::{End, Job, SectorCount};
+use blk_base::{End, SectorCount, Submission};
 use blk_io::SectorDisk;
 use image_disk::MemoryDisk;
 use schedule_run::{Machine, can_carry_out};
@@ -41,7 +41,7 @@ fn carries_out<D: SectorDisk, R: Recorder>(
     disk: &mut D,
     lines: &mut R,
 ) -> Result<u64, RecordStop>
-    requires { attached_of (D.seen disk.old) ≡ Some machine.old.world.rings.front.sectors }
+    requires { attached_of (D.seen disk.old) ≡ Some machine.old.world.rings.back.jobs.info.sectors }
 {
     for step in steps {
         holds(rt, machine.events() < 10);
@@ -52,7 +52,7 @@ fn carries_out<D: SectorDisk, R: Recorder>(
 
 // A new machine over a disk, which it attaches.
 fn machine_over(rt: &impl Abort, alloc: Global, disk: &mut MemoryDisk) -> Machine
-    ensures { attached_of (image_seen disk.new) ≡ Some result.world.rings.front.sectors }
+    ensures { attached_of (image_seen disk.new) ≡ Some result.world.rings.back.jobs.info.sectors }
 {
     let config = plain_config(attached(rt, disk));
     Machine::new(alloc, &config).expect(rt, "memory")
@@ -113,9 +113,17 @@ fn may_be(rt: &impl Abort, event: Event, wanted: bool) {
 #[test]
 fn events_within_the_numbers_of_the_grammar_can_be_carried_out(rt: HostRuntime) {
     let count = SectorCount::new(4294967295).expect(&rt, "a count above 0");
-    may_be(&rt, Event::Submit(Job::Read { sector: 0, count }), true);
-    may_be(&rt, Event::Submit(Job::Discard { sector: 0, count }), true);
-    may_be(&rt, Event::Submit(Job::Flush), true);
+    may_be(
+        &rt,
+        Event::Submit(Submission::Read { sector: 0, count }),
+        true,
+    );
+    may_be(
+        &rt,
+        Event::Submit(Submission::Discard { sector: 0, count }),
+        true,
+    );
+    may_be(&rt, Event::Submit(Submission::Flush), true);
     may_be(&rt, Event::Suspend, true);
     may_be(&rt, Event::Turn(1000001), false);
     may_be(&rt, Event::Close(End::Back), true);

@@ -1,4 +1,4 @@
-use Rattle.std.proofs.Common.{sym, ap}
+use Rattle.std.proofs.Common.{refl}
 use Rattle.std.specs.Prelude.{ℕ, Some}
 use Rattle.blk_back.specs.Hands.{hands_of}
 use Rattle.split_model.proofs.Safe.{safe_start, safe_happens, safe_after, front_may, back_may, job_may}
@@ -17,8 +17,8 @@ pub returns-clause-front : goal.returns-clause-front
 returns-clause-front c w safe within = front_may w safe within
 
 pub returns-clause-back : goal.returns-clause-back
-returns-clause-back c w safe names made few = back_may w.under (Some w.front.sectors) (hands_of w.back) w.back safe.held names made few
+returns-clause-back c w safe names made few = back_may w.under (Some w.back.jobs.info.sectors) (hands_of w.back) w.back safe.held names made few
 
 pub returns-clause-job : goal.returns-clause-job
 returns-clause-job c w number safe names within made few =
-    job_may w.under (Some w.front.sectors) w.back.jobs.info.sectors (hands_of w.back) w.back number safe.held names within (sym (ap (λ (n : ℕ). Some n) safe.sized)) made few
+    job_may w.under (Some w.back.jobs.info.sectors) w.back.jobs.info.sectors (hands_of w.back) w.back number safe.held names within refl made few

@@ -10,8 +10,8 @@ ghost use Rattle.vbd_back.specs.Step.{job_ask_of, job_step, next_job_of};
 
 use super::Backend;
 use crate::turn::Turn;
-use blk_back::{BackStage, BackTold, Halt};
-use blk_base::{BackAnswer, BackAsk};
+use blk_back::{BackStage, BackTold};
+use blk_base::{BackAnswer, BackAsk, Halt};
 
 impl Backend {
     /// What the job of the `number`-th request that was fetched in this epoch asks next; `Wait` also
@@ -26,15 +26,15 @@ impl Backend {
         self.ring.job_ask(number)
     }
 
-    /// Completes what the job of a number asks by this answer.
+    /// Answers what the job of a number asks.
     #[inline(always)]
-    pub fn job_complete(&mut self, number: u64, answer: &BackAnswer)
+    pub fn job_tell(&mut self, number: u64, answer: &BackAnswer)
         requires answer { IsAnswer (job_ask_of self.old number) answer.now }
         requires told { self.old.ring.told ≡ None }
         ensures stepped { self.new ≡ job_step self.old number answer.now }
         ensures hands { HandsAfter (job_ask_of self.old number) answer.now (hands_of self.old.ring) (hands_of self.new.ring) }
     {
-        self.ring.job_complete(number, answer);
+        self.ring.job_tell(number, answer);
     }
 
     /// The least number above this one of a job that is held; `None` exactly where there is none, and

@@ -14,7 +14,7 @@ invariant_of-self-else-is_empty c =
     let sound = c.self.invariant.0 in
     let some = reads_some _ _ (subst (λ (v : View). IsTaking v.stage) (sym c.self.view_is) c.requires.stage) sound.reading in
     let within : c.args.place < length c.self.inside.requests.held = search rules in
-    let requests = c.remove-request.ensures.rest in (
+    let requests = c.finish-request.ensures.rest in (
       record {
         order = sound.order;
         entries = grind (arith, common_steps);
@@ -26,12 +26,12 @@ invariant_of-self-else-is_empty c =
         unissued = tt;
         issuing = tt;
         reading = tt;
-        ascending = c.remove-request.ensures.ascending;
+        ascending = c.finish-request.ensures.ascending;
         given = rw requests (remove_given _ _ _ within sound.given);
         shaped = rw requests (remove_all IsShaped _ _ sound.shaped);
         held = tt;
         ending = rw c.replace.ensures.ending (grind (arith, common_steps));
-        apart = rw (c.replace.ensures.ending, requests) (removed_apart _ _ _ _ within sound.ascending sound.given c.remove-request.ensures.value);
+        apart = rw (c.replace.ensures.ending, requests) (removed_apart _ _ _ _ within sound.ascending sound.given c.finish-request.ensures.value);
       },
       grind (arith, common_steps),
       record { enough = grind (arith, common_steps); room = grind (arith, common_steps) },
@@ -42,7 +42,7 @@ invariant_of-self c =
     let sound = c.self.invariant.0 in
     let some = reads_some _ _ (subst (λ (v : View). IsTaking v.stage) (sym c.self.view_is) c.requires.stage) sound.reading in
     let within : c.args.place < length c.self.inside.requests.held = search rules in
-    let requests = c.remove-request.ensures.rest in (
+    let requests = c.finish-request.ensures.rest in (
       record {
         order = sound.order;
         entries = grind (arith, common_steps);
@@ -54,7 +54,7 @@ invariant_of-self c =
         unissued = tt;
         issuing = tt;
         reading = tt;
-        ascending = c.remove-request.ensures.ascending;
+        ascending = c.finish-request.ensures.ascending;
         given = rw requests (remove_given _ _ _ within sound.given);
         shaped = rw requests (remove_all IsShaped _ _ sound.shaped);
         held = tt;
@@ -68,13 +68,13 @@ invariant_of-self c =
 pub returns-then-is_empty : goal.returns-then-is_empty
 returns-then-is_empty c =
     let within : c.args.place < length c.self.inside.requests.held = search rules in
-    let found = slice_get_read c.self.inside.requests.held _ c.args.place c.remove-request.result refl within c.remove-request.ensures.value in
+    let found = slice_get_read c.self.inside.requests.held _ c.args.place c.finish-request.result refl within c.finish-request.ensures.value in
     rw (← c.self.view_is, found) (search rules)
 
 pub returns-else-is_empty : goal.returns-else-is_empty
 returns-else-is_empty c =
     let within : c.args.place < length c.self.inside.requests.held = search rules in
-    let found = slice_get_read c.self.inside.requests.held _ c.args.place c.remove-request.result refl within c.remove-request.ensures.value in
+    let found = slice_get_read c.self.inside.requests.held _ c.args.place c.finish-request.result refl within c.finish-request.ensures.value in
     rw (← c.self.view_is, found) (search rules)
 
 pub consume-requires : goal.consume-requires

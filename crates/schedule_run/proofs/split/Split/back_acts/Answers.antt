@@ -36,8 +36,8 @@ returns-in_default-answer g c =
     let said = said_so w.rings.under c.back.new.self Back c.ask-ask.result _ _ c.in-Ok.answer None c.in_default-answer.is (record { acted = c.in-Ok.ensures.acted; under = c.in-Ok.ensures.under; may_show = c.in-Ok.ensures.may_show; given = c.in-Ok.ensures.given; disk = c.in-Ok.ensures.disk }) in
     rw (← c.self.view_is) (back_rests w c.ask-ask.result Took c.back.new.self _ _ _ c.self.invariant.1 c.ask-ask.ensures.value said.acted said.under said.disk)
 
-pub complete-requires : goal.complete-requires
-complete-requires g c =
+pub tell-requires : goal.tell-requires
+tell-requires g c =
     let w : World = world_of c.self.inside.front c.self.inside.back c.self.inside.under in
     let fit = c.self.invariant.1 in
     let said = said_so w.rings.under c.back.new.self Back c.ask-ask.result _ _ c.in-Ok.answer (Some c.in-Some.answer) c.in-Some.is (record { acted = c.in-Ok.ensures.acted; under = c.in-Ok.ensures.under; may_show = c.in-Ok.ensures.may_show; given = c.in-Ok.ensures.given; disk = c.in-Ok.ensures.disk }) in
@@ -48,8 +48,8 @@ invariant_of-self-2 g c =
     let w : World = world_of c.self.inside.front c.self.inside.back c.self.inside.under in
     let said = said_so w.rings.under c.back.new.self Back c.ask-ask.result _ _ c.in-Ok.answer (Some c.in-Some.answer) c.in-Some.is (record { acted = c.in-Ok.ensures.acted; under = c.in-Ok.ensures.under; may_show = c.in-Ok.ensures.may_show; given = c.in-Ok.ensures.given; disk = c.in-Ok.ensures.disk }) in (
       c.self.invariant.0,
-      back_fit w c.ask-ask.result (c.in-Some.answer, back_shown c.back.new.self Back c.ask-ask.result c.in-Some.answer) c.complete.new.self c.take_told-told.new.self c.back.new.self _ _ c.self.invariant.1
-          (record { asked = c.ask-ask.ensures.value; seen_so = said.acted; under = said.under; disk = said.disk; stepped = c.complete.ensures.completed; taken = c.take_told-told.ensures.taken }),
+      back_fit w c.ask-ask.result (c.in-Some.answer, back_shown c.back.new.self Back c.ask-ask.result c.in-Some.answer) c.tell.new.self c.take_told-told.new.self c.back.new.self _ _ c.self.invariant.1
+          (record { asked = c.ask-ask.ensures.value; seen_so = said.acted; under = said.under; disk = said.disk; stepped = c.tell.ensures.completed; taken = c.take_told-told.ensures.taken }),
     )
 
 pub returns : goal.returns
@@ -57,7 +57,7 @@ returns g c =
     let w : World = world_of c.self.inside.front c.self.inside.back c.self.inside.under in
     let shown = back_shown c.back.new.self Back c.ask-ask.result c.in-Some.answer in
     let said = said_so w.rings.under c.back.new.self Back c.ask-ask.result _ _ c.in-Ok.answer (Some c.in-Some.answer) c.in-Some.is (record { acted = c.in-Ok.ensures.acted; under = c.in-Ok.ensures.under; may_show = c.in-Ok.ensures.may_show; given = c.in-Ok.ensures.given; disk = c.in-Ok.ensures.disk }) in
-    rw (← c.self.view_is) (back_goes_as w c.ask-ask.result (c.in-Some.answer, shown) c.complete.new.self c.take_told-told.new.self c.back.new.self _ _ (back_lines c.take_told-told.result c.in-Some.answer ++ halt_lines c.halted-before.result c.halted.result) _ _ c.follow_back.result c.self.invariant.1
-    (record { asked = c.ask-ask.ensures.value; seen_so = said.acted; under = said.under; disk = said.disk; stepped = c.complete.ensures.completed; taken = c.take_told-told.ensures.taken })
-    (back_lines_as w c.complete.new.self c.take_told-told.new.self c.take_told-told.result c.in-Some.answer c.halted-before.result c.halted.result c.take_told-told.ensures.told c.take_told-told.ensures.taken c.halted-before.ensures c.halted.ensures)
+    rw (← c.self.view_is) (back_goes_as w c.ask-ask.result (c.in-Some.answer, shown) c.tell.new.self c.take_told-told.new.self c.back.new.self _ _ (back_lines c.take_told-told.result c.in-Some.answer ++ halt_lines c.halted-before.result c.halted.result) _ _ c.follow_back.result c.self.invariant.1
+    (record { asked = c.ask-ask.ensures.value; seen_so = said.acted; under = said.under; disk = said.disk; stepped = c.tell.ensures.completed; taken = c.take_told-told.ensures.taken })
+    (back_lines_as w c.tell.new.self c.take_told-told.new.self c.take_told-told.result c.in-Some.answer c.halted-before.result c.halted.result c.take_told-told.ensures.told c.take_told-told.ensures.taken c.halted-before.ensures c.halted.ensures)
     (c.follow_back.ensures (Move shown ∷ []) _ c.show_back-shown.ensures))

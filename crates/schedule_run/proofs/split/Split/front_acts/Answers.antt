@@ -27,8 +27,8 @@ returns-in_default-answer g c =
     rw (← c.self.view_is) (λ disk. front_rests w c.ask-ask.result c.front.new.self disk _ c.self.invariant.1 asked
     (front_told_none w.rings.under c.ask-ask.result c.in-Ok.answer c.in_default-answer.is c.in-Ok.ensures.acted) c.in-Ok.ensures.under)
 
-pub complete-requires : goal.complete-requires
-complete-requires g c =
+pub tell-requires : goal.tell-requires
+tell-requires g c =
     let w : World = world_of c.self.inside.front c.self.inside.back c.self.inside.under in
     let fit = c.self.invariant.1 in
     let acted = front_told_so w.rings.under c.ask-ask.result c.in-Ok.answer c.in-Some.answer c.in-Some.is c.in-Ok.ensures.acted in
@@ -38,14 +38,14 @@ pub invariant_of-self-2 : goal.invariant_of-self-2
 invariant_of-self-2 g c =
     let w : World = world_of c.self.inside.front c.self.inside.back c.self.inside.under in
     let acted = front_told_so w.rings.under c.ask-ask.result c.in-Ok.answer c.in-Some.answer c.in-Some.is c.in-Ok.ensures.acted in
-    front_fit w c.ask-ask.result (c.in-Some.answer, front_shown c.ask-ask.result c.in-Some.answer) c.complete.new.self c.follow_told.new.front c.front.new.self c.self.invariant.1
-    (asked_now c.self.inside.front c.ask-ask.result c.self.invariant.0 c.ask-ask.ensures.value) acted c.in-Ok.ensures.under (heard_now c.self.inside.front c.complete.new.self c.in-Some.answer c.self.invariant.0 c.complete.ensures.completed) c.follow_told.ensures.taken
+    front_fit w c.ask-ask.result (c.in-Some.answer, front_shown c.ask-ask.result c.in-Some.answer) c.tell.new.self c.follow_told.new.front c.front.new.self c.self.invariant.1
+    (asked_now c.self.inside.front c.ask-ask.result c.self.invariant.0 c.ask-ask.ensures.value) acted c.in-Ok.ensures.under (heard_now c.self.inside.front c.tell.new.self c.in-Some.answer c.self.invariant.0 c.tell.ensures.completed) c.follow_told.ensures.taken
 
 pub returns : goal.returns
 returns g c =
     let w : World = world_of c.self.inside.front c.self.inside.back c.self.inside.under in
     let shown = front_shown c.ask-ask.result c.in-Some.answer in
     let acted = front_told_so w.rings.under c.ask-ask.result c.in-Ok.answer c.in-Some.answer c.in-Some.is c.in-Ok.ensures.acted in
-    rw (← c.self.view_is) (λ disk. front_goes_as w c.ask-ask.result (c.in-Some.answer, shown) c.complete.new.self c.follow_told.new.front c.front.new.self disk _ _ c.follow_told.result c.self.invariant.1
-    (asked_now c.self.inside.front c.ask-ask.result c.self.invariant.0 c.ask-ask.ensures.value) acted c.in-Ok.ensures.under (heard_now c.self.inside.front c.complete.new.self c.in-Some.answer c.self.invariant.0 c.complete.ensures.completed) c.follow_told.ensures.taken
+    rw (← c.self.view_is) (λ disk. front_goes_as w c.ask-ask.result (c.in-Some.answer, shown) c.tell.new.self c.follow_told.new.front c.front.new.self disk _ _ c.follow_told.result c.self.invariant.1
+    (asked_now c.self.inside.front c.ask-ask.result c.self.invariant.0 c.ask-ask.ensures.value) acted c.in-Ok.ensures.under (heard_now c.self.inside.front c.tell.new.self c.in-Some.answer c.self.invariant.0 c.tell.ensures.completed) c.follow_told.ensures.taken
     (c.follow_told.ensures.lines (Move shown ∷ []) _ c.show_front-shown.ensures))

@@ -16,8 +16,8 @@ invariant_of-self g c =
     let ask = Read c.args.frame c.args.word in
     let asked = subst (λ (x : World). ask ≡ ask_of (frontend_of x)) (sym c.self.view_is) c.requires.asked in
     let answer = Word c.read_front.result in
-    front_fit w ask (answer, FrontRead c.args.frame c.args.word c.read_front.result) c.complete.new.self c.follow_told.new.front w.rings.under c.self.invariant.1
-    asked (rw c.read_front.ensures refl) refl (heard_now c.self.inside.front c.complete.new.self answer c.self.invariant.0 c.complete.ensures.completed) c.follow_told.ensures.taken
+    front_fit w ask (answer, FrontRead c.args.frame c.args.word c.read_front.result) c.tell.new.self c.follow_told.new.front w.rings.under c.self.invariant.1
+    asked (rw c.read_front.ensures refl) refl (heard_now c.self.inside.front c.tell.new.self answer c.self.invariant.0 c.tell.ensures.completed) c.follow_told.ensures.taken
 
 pub returns : goal.returns
 returns g c =
@@ -26,13 +26,13 @@ returns g c =
     let answer = Word c.read_front.result in
     let shown = FrontRead c.args.frame c.args.word c.read_front.result in
     let asked = subst (λ (x : World). ask ≡ ask_of (frontend_of x)) (sym c.self.view_is) c.requires.asked in
-    rw (← c.self.view_is) (λ disk. front_goes_as w ask (answer, shown) c.complete.new.self c.follow_told.new.front w.rings.under disk _ _ c.follow_told.result c.self.invariant.1
-    asked (rw c.read_front.ensures refl) refl (heard_now c.self.inside.front c.complete.new.self answer c.self.invariant.0 c.complete.ensures.completed) c.follow_told.ensures.taken
+    rw (← c.self.view_is) (λ disk. front_goes_as w ask (answer, shown) c.tell.new.self c.follow_told.new.front w.rings.under disk _ _ c.follow_told.result c.self.invariant.1
+    asked (rw c.read_front.ensures refl) refl (heard_now c.self.inside.front c.tell.new.self answer c.self.invariant.0 c.tell.ensures.completed) c.follow_told.ensures.taken
     (c.follow_told.ensures.lines (Move shown ∷ []) _ c.show_front-shown.ensures))
 
 -- what it is told answers what it asked
-pub complete-requires : goal.complete-requires
-complete-requires g c =
+pub tell-requires : goal.tell-requires
+tell-requires g c =
     let w : World = world_of c.self.inside.front c.self.inside.back c.self.inside.under in
     let ask = Read c.args.frame c.args.word in
     let asked = subst (λ (x : World). ask ≡ ask_of (frontend_of x)) (sym c.self.view_is) c.requires.asked in

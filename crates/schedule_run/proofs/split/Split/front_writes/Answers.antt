@@ -15,8 +15,8 @@ invariant_of-self g c =
     let w : World = world_of c.self.inside.front c.self.inside.back c.self.inside.under in
     let ask = Write c.args.frame c.args.word c.args.value in
     let asked = subst (λ (x : World). ask ≡ ask_of (frontend_of x)) (sym c.self.view_is) c.requires.asked in
-    front_fit w ask (Done, FrontWrite c.args.frame c.args.word c.args.value) c.complete.new.self c.follow_told.new.front c.write_front.new.self c.self.invariant.1
-    asked refl c.write_front.ensures (heard_now c.self.inside.front c.complete.new.self Done c.self.invariant.0 c.complete.ensures.completed) c.follow_told.ensures.taken
+    front_fit w ask (Done, FrontWrite c.args.frame c.args.word c.args.value) c.tell.new.self c.follow_told.new.front c.write_front.new.self c.self.invariant.1
+    asked refl c.write_front.ensures (heard_now c.self.inside.front c.tell.new.self Done c.self.invariant.0 c.tell.ensures.completed) c.follow_told.ensures.taken
 
 pub returns : goal.returns
 returns g c =
@@ -24,13 +24,13 @@ returns g c =
     let ask = Write c.args.frame c.args.word c.args.value in
     let shown = FrontWrite c.args.frame c.args.word c.args.value in
     let asked = subst (λ (x : World). ask ≡ ask_of (frontend_of x)) (sym c.self.view_is) c.requires.asked in
-    rw (← c.self.view_is) (λ disk. front_goes_as w ask (Done, shown) c.complete.new.self c.follow_told.new.front c.write_front.new.self disk _ _ c.follow_told.result c.self.invariant.1
-    asked refl c.write_front.ensures (heard_now c.self.inside.front c.complete.new.self Done c.self.invariant.0 c.complete.ensures.completed) c.follow_told.ensures.taken
+    rw (← c.self.view_is) (λ disk. front_goes_as w ask (Done, shown) c.tell.new.self c.follow_told.new.front c.write_front.new.self disk _ _ c.follow_told.result c.self.invariant.1
+    asked refl c.write_front.ensures (heard_now c.self.inside.front c.tell.new.self Done c.self.invariant.0 c.tell.ensures.completed) c.follow_told.ensures.taken
     (c.follow_told.ensures.lines (Move shown ∷ []) _ c.show_front-shown.ensures))
 
 -- what it is told answers what it asked
-pub complete-requires : goal.complete-requires
-complete-requires g c =
+pub tell-requires : goal.tell-requires
+tell-requires g c =
     let w : World = world_of c.self.inside.front c.self.inside.back c.self.inside.under in
     let ask = Write c.args.frame c.args.word c.args.value in
     let asked = subst (λ (x : World). ask ≡ ask_of (frontend_of x)) (sym c.self.view_is) c.requires.asked in

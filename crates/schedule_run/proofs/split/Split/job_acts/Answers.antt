@@ -34,8 +34,8 @@ returns-in_default-answer g c =
     (back_left w.rings.under (Job c.args.number) c.job_ask-ask.result (job_ask_of w.rings.back c.args.number) Took c.back.new.self c.job_ask-ask.ensures.value said.under)
     (back_did_disk c.job_ask-ask.result (job_ask_of w.rings.back c.args.number) Took _ _ c.job_ask-ask.ensures.value said.disk)))
 
-pub job_complete-requires-clause-answer : goal.job_complete-requires-clause-answer
-job_complete-requires-clause-answer g c =
+pub job_tell-requires-clause-answer : goal.job_tell-requires-clause-answer
+job_tell-requires-clause-answer g c =
     let w : World = world_of c.self.inside.front c.self.inside.back c.self.inside.under in
     let said = said_so w.rings.under c.back.new.self (Job c.args.number) c.job_ask-ask.result _ _ c.in-Ok.answer (Some c.in-Some.answer) c.in-Some.is (record { acted = c.in-Ok.ensures.acted; under = c.in-Ok.ensures.under; may_show = c.in-Ok.ensures.may_show; given = c.in-Ok.ensures.given; disk = c.in-Ok.ensures.disk }) in
     job_told w.rings c.args.number (c.in-Some.answer, back_shown c.back.new.self (Job c.args.number) c.job_ask-ask.result c.in-Some.answer)
@@ -46,11 +46,11 @@ invariant_of-self-2 g c =
     let w : World = world_of c.self.inside.front c.self.inside.back c.self.inside.under in
     let said = said_so w.rings.under c.back.new.self (Job c.args.number) c.job_ask-ask.result _ _ c.in-Ok.answer (Some c.in-Some.answer) c.in-Some.is (record { acted = c.in-Ok.ensures.acted; under = c.in-Ok.ensures.under; may_show = c.in-Ok.ensures.may_show; given = c.in-Ok.ensures.given; disk = c.in-Ok.ensures.disk }) in (
       c.self.invariant.0,
-      job_fit c.args.number (outcome_told c.in-Some.answer) w c.take_told-told.new.self c.back.new.self (job_bus c.args.number c.self.inside.back c.job_complete.new.self c.take_told-told.new.self c.in-Some.answer c.job_complete.ensures.stepped c.take_told-told.ensures.taken)
+      job_fit c.args.number (outcome_told c.in-Some.answer) w c.take_told-told.new.self c.back.new.self (job_bus c.args.number c.self.inside.back c.job_tell.new.self c.take_told-told.new.self c.in-Some.answer c.job_tell.ensures.stepped c.take_told-told.ensures.taken)
           (job_moved w.rings c.args.number (c.in-Some.answer, back_shown c.back.new.self (Job c.args.number) c.job_ask-ask.result c.in-Some.answer) c.take_told-told.new.self.ring c.back.new.self
           (back_asked w.rings.under (Job c.args.number) c.job_ask-ask.result (job_ask_of w.rings.back c.args.number) (c.in-Some.answer, back_shown c.back.new.self (Job c.args.number) c.job_ask-ask.result c.in-Some.answer) c.job_ask-ask.ensures.value said.acted)
           (back_left w.rings.under (Job c.args.number) c.job_ask-ask.result (job_ask_of w.rings.back c.args.number) (outcome_told c.in-Some.answer) c.back.new.self c.job_ask-ask.ensures.value said.under)
-          (back_stepped c.job_complete.new.self.ring c.take_told-told.new.self.ring (job_step w.rings.back c.args.number c.in-Some.answer) (ap (λ (v : View). v.ring) c.job_complete.ensures.stepped) (ap (λ (v : View). v.ring) c.take_told-told.ensures.taken)))
+          (back_stepped c.job_tell.new.self.ring c.take_told-told.new.self.ring (job_step w.rings.back c.args.number c.in-Some.answer) (ap (λ (v : View). v.ring) c.job_tell.ensures.stepped) (ap (λ (v : View). v.ring) c.take_told-told.ensures.taken)))
           c.self.invariant.1,
     )
 
@@ -58,11 +58,11 @@ pub returns : goal.returns
 returns g c =
     let w : World = world_of c.self.inside.front c.self.inside.back c.self.inside.under in
     let said = said_so w.rings.under c.back.new.self (Job c.args.number) c.job_ask-ask.result _ _ c.in-Ok.answer (Some c.in-Some.answer) c.in-Some.is (record { acted = c.in-Ok.ensures.acted; under = c.in-Ok.ensures.under; may_show = c.in-Ok.ensures.may_show; given = c.in-Ok.ensures.given; disk = c.in-Ok.ensures.disk }) in
-    rw (← c.self.view_is) (job_seen c.args.number 1 w c.take_told-told.new.self c.back.new.self _ _ _ _ c.follow_job.result (job_bus c.args.number c.self.inside.back c.job_complete.new.self c.take_told-told.new.self c.in-Some.answer c.job_complete.ensures.stepped c.take_told-told.ensures.taken)
+    rw (← c.self.view_is) (job_seen c.args.number 1 w c.take_told-told.new.self c.back.new.self _ _ _ _ c.follow_job.result (job_bus c.args.number c.self.inside.back c.job_tell.new.self c.take_told-told.new.self c.in-Some.answer c.job_tell.ensures.stepped c.take_told-told.ensures.taken)
     (job_goes w.rings c.args.number (c.in-Some.answer, back_shown c.back.new.self (Job c.args.number) c.job_ask-ask.result c.in-Some.answer) c.take_told-told.new.self.ring c.back.new.self (back_lines c.take_told-told.result c.in-Some.answer) _ _ _ _ c.follow_job.result said.given
     (back_asked w.rings.under (Job c.args.number) c.job_ask-ask.result (job_ask_of w.rings.back c.args.number) (c.in-Some.answer, back_shown c.back.new.self (Job c.args.number) c.job_ask-ask.result c.in-Some.answer) c.job_ask-ask.ensures.value said.acted)
     (back_left w.rings.under (Job c.args.number) c.job_ask-ask.result (job_ask_of w.rings.back c.args.number) (outcome_told c.in-Some.answer) c.back.new.self c.job_ask-ask.ensures.value said.under)
     (back_did_disk c.job_ask-ask.result (job_ask_of w.rings.back c.args.number) (outcome_told c.in-Some.answer) _ _ c.job_ask-ask.ensures.value said.disk)
-    (back_stepped c.job_complete.new.self.ring c.take_told-told.new.self.ring (job_step w.rings.back c.args.number c.in-Some.answer) (ap (λ (v : View). v.ring) c.job_complete.ensures.stepped) (ap (λ (v : View). v.ring) c.take_told-told.ensures.taken))
-    (back_said c.job_complete.new.self.ring (job_step w.rings.back c.args.number c.in-Some.answer) c.in-Some.answer c.take_told-told.result (back_lines c.take_told-told.result c.in-Some.answer) (ap (λ (v : View). v.ring) c.job_complete.ensures.stepped) c.take_told-told.ensures.told refl)
+    (back_stepped c.job_tell.new.self.ring c.take_told-told.new.self.ring (job_step w.rings.back c.args.number c.in-Some.answer) (ap (λ (v : View). v.ring) c.job_tell.ensures.stepped) (ap (λ (v : View). v.ring) c.take_told-told.ensures.taken))
+    (back_said c.job_tell.new.self.ring (job_step w.rings.back c.args.number c.in-Some.answer) c.in-Some.answer c.take_told-told.result (back_lines c.take_told-told.result c.in-Some.answer) (ap (λ (v : View). v.ring) c.job_tell.ensures.stepped) c.take_told-told.ensures.told refl)
     (rw (append-nil (back_lines c.take_told-told.result c.in-Some.answer)) (c.follow_job.ensures (Move (back_shown c.back.new.self (Job c.args.number) c.job_ask-ask.result c.in-Some.answer) ∷ []) _ c.show_back-shown.ensures))))

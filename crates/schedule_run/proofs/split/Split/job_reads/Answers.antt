@@ -19,7 +19,7 @@ returns g c =
     let asked = subst (λ (x : World). ask ≡ job_ask_of x.rings.back c.args.number) (sym c.self.view_is) c.requires.asked in
     let answer = Word c.read.result in
     let shown = back_shown w.rings.under (Job c.args.number) ask answer in
-    rw (← c.self.view_is) (λ disk. job_seen c.args.number 0 w c.take_told-told.new.self w.rings.under disk disk _ _ c.follow_job.result (job_bus c.args.number c.self.inside.back c.job_complete.new.self c.take_told-told.new.self answer c.job_complete.ensures.stepped c.take_told-told.ensures.taken)
-    (job_goes_as w.rings c.args.number ask (answer, shown) c.job_complete.new.self.ring c.take_told-told.new.self.ring w.rings.under c.take_told-told.result disk _ _ c.follow_job.result
-    asked tt (rw c.read.ensures refl) refl refl refl (ap (λ (v : View). v.ring) c.job_complete.ensures.stepped) c.take_told-told.ensures.told (ap (λ (v : View). v.ring) c.take_told-told.ensures.taken)
+    rw (← c.self.view_is) (λ disk. job_seen c.args.number 0 w c.take_told-told.new.self w.rings.under disk disk _ _ c.follow_job.result (job_bus c.args.number c.self.inside.back c.job_tell.new.self c.take_told-told.new.self answer c.job_tell.ensures.stepped c.take_told-told.ensures.taken)
+    (job_goes_as w.rings c.args.number ask (answer, shown) c.job_tell.new.self.ring c.take_told-told.new.self.ring w.rings.under c.take_told-told.result disk _ _ c.follow_job.result
+    asked tt (rw c.read.ensures refl) refl refl refl (ap (λ (v : View). v.ring) c.job_tell.ensures.stepped) c.take_told-told.ensures.told (ap (λ (v : View). v.ring) c.take_told-told.ensures.taken)
     (c.follow_job.ensures (Move shown ∷ []) _ c.show_back-shown.ensures)))

@@ -20,8 +20,8 @@ returns g c =
     let asked = subst (λ (x : World). ask ≡ job_ask_of x.rings.back c.args.number) (sym c.self.view_is) c.requires.asked in
     let u = c.write.new.self in
     let shown = back_shown u (Job c.args.number) ask Done in
-    rw (← c.self.view_is) (λ disk. job_seen c.args.number 0 w c.take_told-told.new.self u disk disk _ _ c.follow_job.result (job_bus c.args.number c.self.inside.back c.job_complete.new.self c.take_told-told.new.self Done c.job_complete.ensures.stepped c.take_told-told.ensures.taken)
-    (job_goes_as w.rings c.args.number ask (Done, shown) c.job_complete.new.self.ring c.take_told-told.new.self.ring u c.take_told-told.result disk _ _ c.follow_job.result
+    rw (← c.self.view_is) (λ disk. job_seen c.args.number 0 w c.take_told-told.new.self u disk disk _ _ c.follow_job.result (job_bus c.args.number c.self.inside.back c.job_tell.new.self c.take_told-told.new.self Done c.job_tell.ensures.stepped c.take_told-told.ensures.taken)
+    (job_goes_as w.rings c.args.number ask (Done, shown) c.job_tell.new.self.ring c.take_told-told.new.self.ring u c.take_told-told.result disk _ _ c.follow_job.result
     asked tt (rw c.write.ensures refl) c.write.ensures refl (ap (λ (h : Hypervisor). h.grants) c.write.ensures)
-    (ap (λ (v : View). v.ring) c.job_complete.ensures.stepped) c.take_told-told.ensures.told (ap (λ (v : View). v.ring) c.take_told-told.ensures.taken)
+    (ap (λ (v : View). v.ring) c.job_tell.ensures.stepped) c.take_told-told.ensures.told (ap (λ (v : View). v.ring) c.take_told-told.ensures.taken)
     (c.follow_job.ensures (Move shown ∷ []) _ c.show_back-shown.ensures)))

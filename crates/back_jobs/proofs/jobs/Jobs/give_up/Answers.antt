@@ -3,7 +3,7 @@ use Rattle.back_jobs.specs.Sound.{AreAscending, done_place, done_numbers, ordere
 use Rattle.back_jobs.proofs.Hands.{few_after}
 use Rattle.back_jobs.proofs.Listed.{none_left}
 use Rattle.back_jobs.proofs.Sizes.{after_sized}
-use Rattle.back_jobs.proofs.jobs.Jobs.abort.Goals as goal
+use Rattle.back_jobs.proofs.jobs.Jobs.give_up.Goals as goal
 
 pub invariant_of-self : goal.invariant_of-self
 invariant_of-self c =

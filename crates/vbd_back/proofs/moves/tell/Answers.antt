@@ -1,7 +1,7 @@
 use Rattle.std.proofs.Common.{sym, ◌∙◌}
 use Rattle.vbd_back.specs.View.{both}
 use Rattle.vbd_back.proofs.Turns.{ring_answers, ring_steps}
-use Rattle.vbd_back.proofs.moves.complete.Goals as goal
+use Rattle.vbd_back.proofs.moves.tell.Goals as goal
 
 pub move_ring-requires : goal.move_ring-requires
 move_ring-requires c =

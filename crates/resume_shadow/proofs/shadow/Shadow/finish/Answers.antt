@@ -1,6 +1,6 @@
 use Rattle.std.proofs.Common.{◌<◌, length, arith, rules}
 use Rattle.resume_shadow.proofs.Order.{remove_ascending}
-use Rattle.resume_shadow.proofs.shadow.Shadow.remove.Goals as goal
+use Rattle.resume_shadow.proofs.shadow.Shadow.finish.Goals as goal
 
 pub invariant_of-self : goal.invariant_of-self
 invariant_of-self g c =

@@ -1,0 +1,14 @@
+use Rattle.blk_back.proofs.Hands.{job_hands_after}
+use Rattle.blk_back.proofs.back.Back.job_tell.Goals as goal
+
+pub returns-in-Some-tell-clause-hands : goal.returns-in-Some-tell-clause-hands
+returns-in-Some-tell-clause-hands c =
+    let h = job_hands_after c.args.self.now c.args.number c.args.answer.now c.requires.answer in
+    let opened = rw (← c.self.view_is) at h in
+    rw (c.tell.ensures.completed, ← c.self.view_is) opened
+
+pub returns-in_default-tell-clause-hands : goal.returns-in_default-tell-clause-hands
+returns-in_default-tell-clause-hands c =
+    let h = job_hands_after c.args.self.now c.args.number c.args.answer.now c.requires.answer in
+    let opened = rw (← c.self.view_is) at h in
+    rw (c.tell.ensures.completed, ← c.self.view_is) opened

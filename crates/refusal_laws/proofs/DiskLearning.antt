@@ -1,0 +1,328 @@
+-- The front knows the disk of its back as it connects, whatever a hostile hand overwrites: it reads the back's own keys, once the back was connected.
+use Rattle.std.proofs.Common.{inl, inr, ◌⊎◌, ◌≡◌, ◌∙◌, ap, sym, subst, ℕ, ◌+◌, ◌^◌, ◌<◌, ◌≤◌, ◌==◌, ◌||◌, ◌&&◌, Bool, true, false, true≢false, List, if◌then◌else◌, refl, arith, decimal}
+use Rattle.std.specs.Prelude.{Option, Some, None, nat_lt}
+use Rattle.std.proofs.lemmas.Option.{none-some, same_Some}
+use Rattle.blk_base.specs.declared.ask.FrontAnswer.{FrontAnswer}
+use Rattle.blk_base.specs.declared.ask.FrontAnswer.TheVariants as answer
+use Rattle.blk_base.specs.declared.parts.End.TheVariants as end
+use Rattle.key_directory.specs.Directory.{Directory, key_of}
+use Rattle.hypervisor.specs.Act.{FrontAct, front_act}
+use Rattle.blk_front.specs.declared.stage.FrontStage.{FrontStage}
+use Rattle.blk_front.specs.State.{is_open}
+use Rattle.xenbus_state.specs.declared.keys.FrontKey.{FrontKey}
+use Rattle.xenbus_state.specs.declared.keys.BackKey.{BackKey}
+use Rattle.xenbus_state.specs.declared.keys.BackKey.TheVariants as key
+use Rattle.xenbus_state.specs.declared.offer.Features.{Features}
+use Rattle.xenbus_state.specs.declared.offer.DiskFacts.{DiskFacts}
+use Rattle.xenbus_state.specs.declared.state.BusState.{BusState}
+use Rattle.xenbus_state.specs.declared.state.BusState.TheVariants as state
+use Rattle.xenbus_state.specs.declared.stage.FrontBusStage.{FrontBusStage}
+use Rattle.xenbus_state.specs.declared.stage.FrontBusStage.TheVariants as stage
+use Rattle.xenbus_state.specs.declared.table.FrontAction.{FrontAction}
+use Rattle.xenbus_state.specs.declared.table.FrontAction.TheVariants as action
+use Rattle.xenbus_state.specs.declared.front.FrontBusAsk.{FrontBusAsk}
+use Rattle.xenbus_state.specs.declared.front.FrontBusAsk.TheVariants as ask
+use Rattle.xenbus_state.specs.States.{state_number, state_read}
+use Rattle.xenbus_state.specs.Tables.{on_offer, on_connected, on_closing, on_gone, front_action}
+use Rattle.xenbus_state.specs.Keys.{back_name, path_under}
+use Rattle.xenbus_state.specs.Programs.{next_feature, next_fact, next_published}
+use Rattle.xenbus_state.specs.Reading.{count_read, fact_read, with_fact}
+use Rattle.xenbus_state.specs.FrontView.{FrontView, ring_order, pages_of, closed, suspended, suspended_at, is_broken}
+use Rattle.xenbus_state.specs.FrontAsk.{leaving, closing_stage, due, due_at, ask_at, ask_of}
+use Rattle.xenbus_state.specs.FrontStep.{at, acted, after_feature, feature_step, after_fact, fact_step, after_state, after_grants, after_published, after, step_at, step_of}
+use Rattle.negotiation_laws.specs.Negotiation.{back_path, back_state}
+use Rattle.negotiation_laws.proofs.Shown.{sectors_shown, info_shown, is_four}
+use Rattle.split_model.proofs.SafeActs.{of_front}
+use Rattle.vbd_front.specs.View as front_view
+use Rattle.vbd_front.specs.Ask as front
+use Rattle.vbd_front.specs.Step as front_step
+use Rattle.vbd_front.specs.Step.{settled_at, bus_told}
+use Rattle.vbd_model.specs.World.{World, frontend_of}
+use Rattle.vbd_model.specs.Happening.{front_turn, front_bus_after}
+use Rattle.vbd_model.specs.Fit.{SaysKey, FrontGoesWith, IsFit}
+use Rattle.vbd_laws.proofs.FitFrontBus.{due_cases}
+use Rattle.vbd_laws.proofs.FitFrontMoves.{left_starts}
+use Rattle.vbd_laws.proofs.FitFrontReads.{followed_is, waited_is}
+use Rattle.vbd_laws.proofs.FitFront.{asks_cases}
+use Rattle.vbd_laws.proofs.MovesTurns.{front_asks, front_cases}
+use Rattle.refusal_laws.proofs.DiskKeys.{IsDiskSaid, IsUnsaid, IsWhole, is_telling, whole_of}
+use Rattle.refusal_laws.proofs.DiskSaid.{IsLate, Goes}
+use Rattle.refusal_laws.proofs.DiskMoves.{late_quiet}
+
+-- what the front has read of the disk is so
+abbrev pub IsDiskKnown : (r e : DiskFacts) → Type 0
+IsDiskKnown r e = (r.sectors ≡ e.sectors) × (r.read_only ≡ e.read_only)
+
+-- it reads that only of a back that was connected; past the sectors all is said
+abbrev pub DiskAt : (late said : Type 0) → (e : DiskFacts) → FrontBusStage → (r : DiskFacts) → Type 0
+DiskAt late said e (stage.ReadFact key.Sectors) r = late
+DiskAt late said e (stage.ReadFact key.SectorSize) r = late × said × (r.sectors ≡ e.sectors)
+DiskAt late said e (stage.ReadFact key.Info) r = late × said × (r.sectors ≡ e.sectors)
+DiskAt late said e (stage.ReadFact k) r = ⊥
+DiskAt late said e (stage.WriteState state.Connected) r = IsDiskKnown r e
+DiskAt late said e s r = Unit {0}
+
+-- what a key shows of it
+abbrev pub ShowsAt : (late said : Type 0) → (e : DiskFacts) → FrontView → (idle : Bool) → FrontBusStage → FrontAnswer → Type 0
+ShowsAt late said e v idle (stage.ReadFact key.Sectors) (answer.Key text) = (fact_read key.Sectors text ≡ None) ⊎ (said × (fact_read key.Sectors text ≡ Some e.sectors))
+ShowsAt late said e v idle (stage.ReadFact key.Info) (answer.Key text) = said → fact_read key.Info text ≡ Some (if e.read_only then 4 else 0)
+ShowsAt late said e v idle stage.ReadState (answer.Key text) = (state_read text ≡ Some state.Connected → late) × (state_read text ≡ Some state.Closing → late)
+ShowsAt late said e v idle s x = Unit {0}
+
+-- the front connects only to a back that says that it is connected, or closes
+either_connects : (b : Bool) (own : BusState) → (if b then action.Nothing else on_offer own) ≡ action.Connect ⊎ (if b then action.Nothing else on_offer own) ≡ action.CloseAndConnect → ⊥
+either_connects true own (inl e) = cc
+either_connects true own (inr e) = cc
+either_connects false state.Initialising (inl e) = cc
+either_connects false state.Initialising (inr e) = cc
+either_connects false own (inl e) = cc
+either_connects false own (inr e) = cc
+
+gone_connects : (idle : Bool) (word : ℕ) → (on_gone idle word ≡ action.Connect) ⊎ (on_gone idle word ≡ action.CloseAndConnect) → ⊥
+gone_connects true word (inl e) = cc
+gone_connects true word (inr e) = cc
+gone_connects false word (inl e) = cc
+gone_connects false word (inr e) = cc
+
+module _ (late said : Type 0) (e : DiskFacts) where
+  abbrev pub Knows : FrontView → Type 0
+  Knows v = DiskAt late said e v.stage v.disk
+
+  -- it connects where the back's state says so
+  connects_late : (own : BusState) (closing idle : Bool) (read : Option BusState) → (read ≡ Some state.Connected → late) → (read ≡ Some state.Closing → late)
+      → (front_action own closing idle read ≡ action.Connect) ⊎ (front_action own closing idle read ≡ action.CloseAndConnect) → late
+  connects_late own closing idle (Some state.Connected) connected ends is = connected refl
+  connects_late own closing idle (Some state.Closing) connected ends is = ends refl
+  connects_late own closing idle (Some state.InitWait) connected ends is = absurd (either_connects (closing && idle) own is)
+  connects_late own closing idle (Some state.Closed) connected ends is = absurd (gone_connects idle 6 is)
+  connects_late own closing idle (Some state.Unknown) connected ends is = absurd (gone_connects idle 0 is)
+  connects_late own closing idle (Some state.Initialising) connected ends (inl is) = absurd (cc)
+  connects_late own closing idle (Some state.Initialising) connected ends (inr is) = absurd (cc)
+  connects_late own closing idle (Some state.Initialised) connected ends (inl is) = absurd (cc)
+  connects_late own closing idle (Some state.Initialised) connected ends (inr is) = absurd (cc)
+  connects_late own closing idle (Some state.Reconfiguring) connected ends (inl is) = absurd (cc)
+  connects_late own closing idle (Some state.Reconfiguring) connected ends (inr is) = absurd (cc)
+  connects_late own closing idle (Some state.Reconfigured) connected ends (inl is) = absurd (cc)
+  connects_late own closing idle (Some state.Reconfigured) connected ends (inr is) = absurd (cc)
+  connects_late own closing idle None connected ends (inl is) = absurd (cc)
+  connects_late own closing idle None connected ends (inr is) = absurd (cc)
+
+  acted_knows : (act : FrontAction) (v : FrontView) → ((act ≡ action.Connect) ⊎ (act ≡ action.CloseAndConnect) → late) → Knows (acted act v)
+  acted_knows action.Nothing v is = tt
+  acted_knows action.Publish v is = tt
+  acted_knows action.Connect v is = is (inl refl)
+  acted_knows action.Close v is = tt
+  acted_knows action.CloseAndConnect v is = is (inr refl)
+  acted_knows action.Leave v is = tt
+  acted_knows (action.Break word) v is = tt
+
+  feature_next : (k : Option BackKey) (r : DiskFacts) → DiskAt late said e (after_feature k) r
+  feature_next None r = tt
+  feature_next (Some k) r = tt
+
+  feature_knows : (k : BackKey) (n : Option ℕ) (v : FrontView) → Knows (feature_step k n v)
+  feature_knows k None v = tt
+  feature_knows k (Some n) v = feature_next (next_feature k) v.disk
+
+  -- a fact is read
+  sectors_known : (o : Option ℕ) (v : FrontView) → (o ≡ None) ⊎ (said × (o ≡ Some e.sectors)) → late → Knows (fact_step key.Sectors o v)
+  sectors_known None v shows is = tt
+  sectors_known (Some n) v (inl none) is = absurd (none-some n (sym none))
+  sectors_known (Some n) v (inr shown) is = (is, shown.0, same_Some n e.sectors shown.1)
+
+  size_known : (o : Option ℕ) (v : FrontView) → late × said × (v.disk.sectors ≡ e.sectors) → Knows (fact_step key.SectorSize o v)
+  size_known None v is = tt
+  size_known (Some n) v is = is
+
+  info_known : (o : Option ℕ) (v : FrontView) → (said → o ≡ Some (if e.read_only then 4 else 0)) → late × said × (v.disk.sectors ≡ e.sectors) → Knows (fact_step key.Info o v)
+  info_known None v shows is = tt
+  info_known (Some n) v shows is = (is.2, ap (λ (m : ℕ). m == 4) (same_Some n (if e.read_only then 4 else 0) (shows is.1)) ∙ is_four e.read_only)
+
+  either_knows : (b : Bool) (s t : FrontBusStage) (r : DiskFacts) → DiskAt late said e s r → DiskAt late said e t r → DiskAt late said e (if b then s else t) r
+  either_knows true s t r p q = p
+  either_knows false s t r p q = q
+
+  published_knows : (k : Option FrontKey) (r : DiskFacts) → DiskAt late said e (after_published k) r
+  published_knows None r = tt
+  published_knows (Some k) r = tt
+
+  grants_know : (p : Option ℕ) (r : DiskFacts) → DiskAt late said e (after_grants p) r
+  grants_know None r = tt
+  grants_know (Some n) r = tt
+
+  state_knows : (s : BusState) (r : DiskFacts) → DiskAt late said e (after_state s) r
+  state_knows state.Closed r = tt
+  state_knows s r = tt
+
+  after_knows : (s : FrontBusStage) (v : FrontView) → DiskAt late said e s v.disk → DiskAt late said e (after s v) v.disk
+  after_knows stage.Start v is = tt
+  after_knows (stage.RingWord word) v is = either_knows (word == 15) (stage.Grant 0) (stage.RingWord (word + 1)) v.disk tt tt
+  after_knows (stage.Grant page) v is = either_knows (nat_lt (page + 1) (pages_of v)) (stage.Grant (page + 1)) stage.NewPort v.disk tt tt
+  after_knows (stage.Publish k) v is = published_knows (next_published (ring_order v) k) v.disk
+  after_knows (stage.EndGrant page) v is = either_knows (nat_lt (page + 1) (pages_of v)) (stage.EndGrant (page + 1)) stage.EndOtherGrants v.disk tt tt
+  after_knows stage.EndOtherGrants v is = grants_know v.port v.disk
+  after_knows s v is = is
+
+  step_knows : (s : FrontBusStage) (v : FrontView) (idle : Bool) (x : FrontAnswer) → ShowsAt late said e v idle s x → DiskAt late said e s v.disk → Knows (step_at s (at s v) idle x)
+  step_knows stage.Rest v idle (answer.Watched path) shows is = tt
+  step_knows stage.ReadState v idle (answer.Key text) shows is =
+      acted_knows (front_action v.state v.closing idle (state_read text)) (at stage.ReadState v) (connects_late v.state v.closing idle (state_read text) shows.0 shows.1)
+  step_knows (stage.ReadFeature k) v idle (answer.Key text) shows is = feature_knows k (count_read text) (at (stage.ReadFeature k) v)
+  step_knows stage.NewPort v idle (answer.Port port) shows is = tt
+  step_knows (stage.ReadFact key.Sectors) v idle (answer.Key text) shows is = sectors_known (fact_read key.Sectors text) (at (stage.ReadFact key.Sectors) v) shows is
+  step_knows (stage.ReadFact key.SectorSize) v idle (answer.Key text) shows is = size_known (fact_read key.SectorSize text) (at (stage.ReadFact key.SectorSize) v) is
+  step_knows (stage.ReadFact key.Info) v idle (answer.Key text) shows is = info_known (fact_read key.Info text) (at (stage.ReadFact key.Info) v) shows is
+  step_knows (stage.ReadFact k) v idle (answer.Key text) shows is = absurd is
+  step_knows (stage.WriteState s) v idle answer.Done shows is = state_knows s v.disk
+  step_knows stage.ClosePort v idle answer.Done shows is = tt
+  step_knows s v idle answer.Done shows is = after_knows s (at s v) is
+  step_knows s v idle x shows is = is
+
+  leaving_knows : (gone : Bool) (port : Option ℕ) (r : DiskFacts) → DiskAt late said e (leaving gone port) r
+  leaving_knows false port r = tt
+  leaving_knows true None r = tt
+  leaving_knows true (Some port) r = tt
+
+  closing_knows : (own : BusState) (v : FrontView) → DiskAt late said e (closing_stage own v) v.disk
+  closing_knows state.Closing v = leaving_knows v.gone v.port v.disk
+  closing_knows own v = tt
+
+  pub due_knows : (v : FrontView) (idle : Bool) → Knows v → DiskAt late said e (due v idle) v.disk
+  due_knows v idle is = due_cases (λ (s : FrontBusStage). DiskAt late said e s v.disk) v idle is (λ here closing is_idle. closing_knows v.state v)
+
+  shows_done : (s : FrontBusStage) (v : FrontView) (idle : Bool) → ShowsAt late said e v idle s answer.Done
+  shows_done (stage.ReadFact key.Sectors) v idle = tt
+  shows_done (stage.ReadFact key.Info) v idle = tt
+  shows_done (stage.ReadFact k) v idle = tt
+  shows_done stage.ReadState v idle = tt
+  shows_done s v idle = tt
+
+  settled_knows : (b : FrontBusAsk) (u : FrontView) (idle : Bool) → Knows u → Knows (settled_at b idle u)
+  settled_knows ask.EndOtherGrants u idle is = step_knows (due u idle) u idle answer.Done (shows_done (due u idle) u idle) (due_knows u idle is)
+  settled_knows b u idle is = is
+
+  pub told_knows : (v : FrontView) (idle : Bool) (x : FrontAnswer) → ShowsAt late said e v idle (due v idle) x → Knows v → Knows (bus_told idle v x)
+  told_knows v idle x shows is = let u : FrontView = step_of v idle x in settled_knows (ask_of u idle) u idle (step_knows (due v idle) v idle x shows (due_knows v idle is))
+
+  pub closed_knows : (v : FrontView) → Knows v → Knows (closed v)
+  closed_knows v is = by_test (v.closing || is_broken v.stage)
+    where
+      by_test : (b : Bool) → Knows (if b then v else record v { closing = true })
+      by_test true = is
+      by_test false = is
+
+  -- a front that begins anew, or is closed or broken, has nothing to know
+  pub suspended_knows : (v : FrontView) → Knows (suspended v)
+  suspended_knows v = by_stage v.stage refl
+    where
+      by_stage : (s : FrontBusStage) → v.stage ≡ s → Knows (suspended_at s v)
+      by_stage stage.Closed here = subst (λ (s : FrontBusStage). DiskAt late said e s v.disk) (sym here) tt
+      by_stage (stage.Broken word) here = subst (λ (s : FrontBusStage). DiskAt late said e s v.disk) (sym here) tt
+      by_stage s here = tt
+
+  pub over_knows : (s : FrontBusStage) (v : FrontView) (r : FrontStage) → FrontGoesWith s v r → is_open r ≡ false → DiskAt late said e s v.disk
+  over_knows (stage.ReadFact k) v r goes over = absurd (true≢false (sym (ap is_open goes.1) ∙ over))
+  over_knows (stage.WriteState state.Connected) v r goes over = absurd (true≢false (sym (ap is_open goes.1) ∙ over))
+  over_knows s v r goes over = tt
+
+-- the front of the machine
+abbrev pub Late : World → Type 0
+Late w = IsLate w.back.state
+
+abbrev pub Said : World → Type 0
+Said w = IsDiskSaid w.back.features w.back.disk w.rings.under.keys
+
+abbrev pub KnowsDisk : World → FrontView → Type 0
+KnowsDisk w v = Knows (Late w) (Said w) w.back.disk v
+
+-- what stays true stays known
+pub known_on : (late said late' said' : Type 0) (e : DiskFacts) → (late → late') → (said → said') → (s : FrontBusStage) (r : DiskFacts) → DiskAt late said e s r → DiskAt late' said' e s r
+known_on late said late' said' e later says (stage.ReadFact key.Sectors) r is = later is
+known_on late said late' said' e later says (stage.ReadFact key.SectorSize) r is = (later is.0, says is.1, is.2)
+known_on late said late' said' e later says (stage.ReadFact key.Info) r is = (later is.0, says is.1, is.2)
+known_on late said late' said' e later says (stage.ReadFact k) r is = absurd is
+known_on late said late' said' e later says (stage.WriteState state.Connected) r is = is
+known_on late said late' said' e later says s r is = tt
+
+module _ (w : World) (a : FrontAct) (fit : IsFit w) (g : Goes w) (sized : w.back.disk.sectors < 2 ^ 64) where
+  abbrev idle : Bool
+  idle = front_view.is_unoccupied w.rings.front
+
+  -- once it was connected the back publishes nothing of its disk
+  whole : Late w → IsWhole w.back.features w.back.disk w.rings.under.keys
+  whole late = whole_of w.back.features w.back.disk w.rings.under.keys w.back.stage (late_quiet w.back.stage w.back.state w.rings.back.stage fit.back late) g.facts
+
+  fact_shown : (text : Option (List ℕ)) → IsWhole w.back.features w.back.disk w.rings.under.keys → key_of w.rings.under.keys.keys (back_path key.Sectors) ≡ text
+      → (fact_read key.Sectors text ≡ None) ⊎ (Said w × (fact_read key.Sectors text ≡ Some w.back.disk.sectors))
+  fact_shown text (inl none) told = inl (ap (fact_read key.Sectors) (sym told ∙ none))
+  fact_shown text (inr said) told = inr (said, sectors_shown text w.back.disk.sectors sized (sym told ∙ said.sectors))
+
+  own_is : (s : BusState) (text : Option (List ℕ)) → key_of w.rings.under.keys.keys back_state ≡ text → state_read text ≡ Some s → w.back.state ≡ s
+  own_is s text told read = same_Some w.back.state s (sym g.own ∙ (ap state_read told ∙ read))
+
+  shows_key : (d : FrontBusStage) → due w.front idle ≡ d → DiskAt (Late w) (Said w) w.back.disk d w.front.disk → front_act w.rings.under (front.key_ask (ask_of w.front idle)) ≡ Some a
+      → ShowsAt (Late w) (Said w) w.back.disk w.front idle d a.answer
+  shows_key stage.ReadState is knows e = by_answer a.answer refl
+    where
+      told : (text : Option (List ℕ)) → a.answer ≡ answer.Key text → key_of w.rings.under.keys.keys back_state ≡ text
+      told text same =
+          of_front (λ (y : FrontAct). y.answer ≡ answer.Key text → key_of w.rings.under.keys.keys back_state ≡ text) _ a (λ same. cc)
+          (ap (λ (d : FrontBusStage). front_act w.rings.under (front.key_ask (ask_at d w.front))) (sym is) ∙ e) same
+
+      by_answer : (x : FrontAnswer) → a.answer ≡ x → ShowsAt (Late w) (Said w) w.back.disk w.front idle stage.ReadState x
+      by_answer (answer.Key text) same = (
+        λ read. subst IsLate (sym (own_is state.Connected text (told text same) read)) (omega arith),
+        λ read. subst IsLate (sym (own_is state.Closing text (told text same) read)) (omega arith),
+      )
+      by_answer x same = tt
+  shows_key (stage.ReadFact key.Sectors) is knows e = by_answer a.answer refl
+    where
+      told : (text : Option (List ℕ)) → a.answer ≡ answer.Key text → key_of w.rings.under.keys.keys (back_path key.Sectors) ≡ text
+      told text same =
+          of_front (λ (y : FrontAct). y.answer ≡ answer.Key text → key_of w.rings.under.keys.keys (back_path key.Sectors) ≡ text) _ a (λ same. cc)
+          (ap (λ (d : FrontBusStage). front_act w.rings.under (front.key_ask (ask_at d w.front))) (sym is) ∙ e) same
+
+      by_answer : (x : FrontAnswer) → a.answer ≡ x → ShowsAt (Late w) (Said w) w.back.disk w.front idle (stage.ReadFact key.Sectors) x
+      by_answer (answer.Key text) same = fact_shown text (whole knows) (told text same)
+      by_answer x same = tt
+  shows_key (stage.ReadFact key.Info) is knows e = by_answer a.answer refl
+    where
+      told : (text : Option (List ℕ)) → a.answer ≡ answer.Key text → key_of w.rings.under.keys.keys (back_path key.Info) ≡ text
+      told text same =
+          of_front (λ (y : FrontAct). y.answer ≡ answer.Key text → key_of w.rings.under.keys.keys (back_path key.Info) ≡ text) _ a (λ same. cc)
+          (ap (λ (d : FrontBusStage). front_act w.rings.under (front.key_ask (ask_at d w.front))) (sym is) ∙ e) same
+
+      by_answer : (x : FrontAnswer) → a.answer ≡ x → ShowsAt (Late w) (Said w) w.back.disk w.front idle (stage.ReadFact key.Info) x
+      by_answer (answer.Key text) same = λ said. info_shown text w.back.disk.read_only (sym (told text same) ∙ said.info)
+      by_answer x same = tt
+  shows_key d is knows e = tt
+
+-- a negotiation that doesn't speak reads no key
+unspoken : (late said : Type 0) (e : DiskFacts) (d : FrontBusStage) (v : FrontView) (i : Bool) (x : FrontAnswer) → front.speaks (ask_at d v) ≡ false → ShowsAt late said e v i d x
+unspoken late said e (stage.ReadFact k) v i x quiet = absurd (true≢false quiet)
+unspoken late said e stage.ReadState v i x quiet = absurd (true≢false quiet)
+unspoken late said e d v i x quiet = tt
+
+shows_none : (w : World) (x : FrontAnswer) → IsFit w → front.speaks (front_asks w) ≡ false → (let idle : Bool = front_view.is_unoccupied w.rings.front in ShowsAt (Late w) (Said w) w.back.disk w.front idle (due w.front idle) x)
+shows_none w x fit =
+    asks_cases (λ (b : FrontBusAsk). front.speaks b ≡ false → ShowsAt (Late w) (Said w) w.back.disk w.front (front_view.is_unoccupied w.rings.front) (due w.front (front_view.is_unoccupied w.rings.front)) x) w
+    (λ left quiet. subst (λ (d : FrontBusStage). ShowsAt (Late w) (Said w) w.back.disk w.front (front_view.is_unoccupied w.rings.front) (due_at d w.front (front_view.is_unoccupied w.rings.front)) x) (sym (left_starts w.front.stage w.front w.rings.front.stage fit.front left)) tt)
+    (λ none quiet. unspoken (Late w) (Said w) w.back.disk (due w.front (front_view.is_unoccupied w.rings.front)) w.front (front_view.is_unoccupied w.rings.front) x quiet)
+
+-- so it knows it after each of its moves
+pub front_knows : (w : World) (act : Option FrontAct) → IsFit w → Goes w → w.back.disk.sectors < 2 ^ 64 → KnowsDisk w w.front → front_turn w ≡ act → KnowsDisk w (front_bus_after w act)
+front_knows w None fit g sized is turn = is
+front_knows w (Some a) fit g sized is turn =
+    front_cases (λ does asked step. front_act w.rings.under asked ≡ Some a → KnowsDisk w (step a.answer).bus) w (λ says e. speaks says e)
+    (λ quiet moves e. followed_is (KnowsDisk w) (frontend_of w) a.answer is (told a.answer quiet) (told answer.Done quiet) (front_asks w) _)
+    (λ quiet still e. waited_is (KnowsDisk w) (frontend_of w) a.answer is (told a.answer quiet) (told answer.Done quiet) (front_asks w)) turn
+  where
+    told : (x : FrontAnswer) → front.speaks (front_asks w) ≡ false → KnowsDisk w (bus_told (front_view.is_unoccupied w.rings.front) w.front x)
+    told x quiet = told_knows (Late w) (Said w) w.back.disk w.front (front_view.is_unoccupied w.rings.front) x (shows_none w x fit quiet) is
+
+    speaks : front.speaks (front_asks w) ≡ true → front_act w.rings.under (front.key_ask (front_asks w)) ≡ Some a → KnowsDisk w (front_step.bus_after (frontend_of w) a.answer)
+    speaks =
+        asks_cases (λ (b : FrontBusAsk). front.speaks b ≡ true → front_act w.rings.under (front.key_ask b) ≡ Some a → KnowsDisk w (front_step.bus_after (frontend_of w) a.answer)) w
+        (λ left says e. absurd (true≢false (sym says)))
+        (λ none says e. told_knows (Late w) (Said w) w.back.disk w.front (front_view.is_unoccupied w.rings.front) a.answer
+        (shows_key w a fit g sized (due w.front (front_view.is_unoccupied w.rings.front)) refl (due_knows (Late w) (Said w) w.back.disk w.front (front_view.is_unoccupied w.rings.front) is) e) is)
