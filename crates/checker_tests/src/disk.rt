@@ -1,6 +1,6 @@
 // Reports by hand, and whether each line can stand on the plain disk.
 use crate::given::line_of;
-use blk_base::{Job, Refusal};
+use blk_base::{Refusal, Submission};
 use plain_disk::{PlainDisk, Sight, Stand};
 use schedule_text::Line;
 use std::alloc::Global;
@@ -167,11 +167,11 @@ fn the_lines_of_a_report_stand_where_the_disk_takes_their_steps(rt: HostRuntime)
 }
 
 // Lines that were seen, how often a request was submitted, and how it is then refused.
-type Submission = (&'static str, u64, &'static str, Option<Refusal>);
+type Asked = (&'static str, u64, &'static str, Option<Refusal>);
 
-fn read_job(rt: &impl Abort, text: &str) -> Submission {
+fn read_submission(rt: &impl Abort, text: &str) -> Submission {
     match line_of(rt, text) {
-        Line::Submit { job, .. } => job,
+        Line::Submit { submission, .. } => submission,
         _ => panic!(rt; "no submission: {text}"),
     }
 }
@@ -184,24 +184,27 @@ fn seen(rt: &impl Abort, lines: &str) -> Sight {
     sight
 }
 
-fn submission(id: u64, job: &Submission) -> Line {
-    Line::Submit { id, job: *job }
+fn line_at(id: u64, submission: &Submission) -> Line {
+    Line::Submit {
+        id,
+        submission: *submission,
+    }
 }
 
-fn submitted(rt: &impl Abort, alloc: Global, count: u64, job: &Submission) -> PlainDisk {
+fn submitted(rt: &impl Abort, alloc: Global, count: u64, submission: &Submission) -> PlainDisk {
     let mut disk = PlainDisk::new(alloc, Vec::new(alloc));
     for id in 0..count {
-        let line = submission(id.wrapping_add(1), job);
+        let line = line_at(id.wrapping_add(1), submission);
         disk.step(&line).expect(rt, "memory");
     }
     disk
 }
 
-fn refuse(rt: &impl Abort, alloc: Global, cases: &[Submission]) {
+fn refuse(rt: &impl Abort, alloc: Global, cases: &[Asked]) {
     for (lines, count, text, wanted) in cases {
-        let job = read_job(rt, text);
-        let disk = submitted(rt, alloc, *count, &job);
-        let found = seen(rt, lines).refusal(disk.requests(), &job);
+        let submission = read_submission(rt, text);
+        let disk = submitted(rt, alloc, *count, &submission);
+        let found = seen(rt, lines).refusal(disk.requests(), &submission);
         assert_eq!(rt; found, *wanted, "{text} after {lines} and {count}");
     }
 }
@@ -215,7 +218,7 @@ const EPOCH: &str = "begin 64 0 0 0 0 rw 200 lines\nready\nepoch";
 
 const CLOSING: &str = "begin 64 0 0 0 0 rw 200 lines\nready\nepoch\nclosing";
 
-const REFUSALS: &[Submission] = &[
+const REFUSALS: &[Asked] = &[
     ("", 0, "submit 1 read 0 1", Some(Refusal::NotReady)),
     (READY, 0, "submit 1 read 199 1", None),
     (READY, 0, "submit 1 read 199 2", Some(Refusal::Range)),
@@ -242,7 +245,7 @@ const OF_TWO_PAGES: &str = "begin 64 1 0 0 0 rw 200 lines\nready";
 
 const OF_SIXTEEN: &str = "begin 64 4 0 0 0 rw 200 lines\nready";
 
-const FILLED: &[Submission] = &[
+const FILLED: &[Asked] = &[
     (READY, 32, "submit 33 read 0 1", Some(Refusal::Full)),
     (OF_TWO_PAGES, 32, "submit 33 read 0 1", None),
     (
