@@ -1,0 +1,35 @@
+-- The machine as it stands after a history that no hostile hand touched.
+use Rattle.std.proofs.Common.{◌≡◌, ◌∙◌, ap, sym, subst, ◌≤◌, List, [], ◌∷◌, ◌++◌, refl}
+use Rattle.blk_base.specs.Options.{Options}
+use Rattle.blk_base.specs.declared.ask.BackAsk.TheVariants as back_ask
+use Rattle.blk_back.specs.Step.{job_ask_of}
+use Rattle.machine_pipeline.specs.Plain.{IsPlain}
+use Rattle.vbd_model.specs.World.{World, start_of}
+use Rattle.vbd_model.specs.Happening.{Happening, happens, after}
+use Rattle.vbd_model.specs.Possible.{IsPossible, ArePossible}
+use Rattle.vbd_model.proofs.Running.{after-append}
+use Rattle.vbd_laws.specs.Quiet.{IsUntouched, AreUntouched}
+use Rattle.vbd_laws.specs.Waits.{JobMayWait}
+use Rattle.vbd_laws.proofs.ServedHonest.{Honest, honest_after}
+use Rattle.vbd_laws.proofs.WaitsJobsHeld.{job_waits_alone}
+use Rattle.settle_laws.proofs.Working.{JobsWaitSo}
+
+pub record Stands (config : Options) (w : World) : Type 0 where
+  pub honest : Honest config w
+  pub history : List Happening
+  pub come : after history (start_of config) ≡ w
+
+-- one happening more
+pub stands_on : (config : Options) (w : World) (h : Happening) → IsUntouched h → IsPossible w h → Stands config w → Stands config (happens w h)
+stands_on config w h untouched possible s = record {
+  honest = honest_after config (h ∷ []) w (untouched, tt) s.honest (possible, tt);
+  history = s.history ++ h ∷ [];
+  come = after-append s.history (h ∷ []) (start_of config) ∙ ap (λ (v : World). happens v h) s.come;
+}
+
+-- its jobs wait for their causes alone
+pub jobs_wait_so : (config : Options) (w : World) → Stands config w → JobsWaitSo w.rings
+jobs_wait_so config w s = subst (λ (v : World). JobsWaitSo v.rings) s.come (λ number waits. (job_waits_alone config s.history number plain.indirect).0 waits)
+  where
+    plain : IsPlain config
+    plain = let honest = s.honest in honest.plain
