@@ -54,7 +54,7 @@ ended_begun config detail history =
     begun_with config detail (lines_of history (start_of config) ++ lines.End ∷ []) (both_later (lines_of history (start_of config)) (lines.End ∷ []) (all_later history (start_of config)) (refl, tt))
 
 -- the first of all lines
-all_first : (P : Line → Type 0) (a b : List Line) → AllByRecursion P (a ++ b) → AllByRecursion P a
+pub all_first : (P : Line → Type 0) (a b : List Line) → AllByRecursion P (a ++ b) → AllByRecursion P a
 all_first P [] b all = tt
 all_first P (line ∷ a) b all = (all.0, all_first P a b all.1)
 

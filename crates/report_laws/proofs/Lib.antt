@@ -30,3 +30,4 @@ pub mod BackAsks
 pub mod Numbers
 pub mod Grammar
 pub mod Refused
+pub mod Settled

@@ -8,3 +8,4 @@ pub mod Agreed
 pub mod Reports
 pub mod Grammar
 pub mod Wrong
+pub mod Settled

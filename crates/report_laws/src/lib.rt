@@ -21,7 +21,7 @@ ghost use Rattle.schedule_text.specs.declared.line.Detail.{Detail};
 ghost use Rattle.schedule_text.specs.declared.line.Detail.TheVariants.{Lines, Moves};
 ghost use Rattle.schedule_text.specs.declared.line.Line.{Line};
 ghost use Rattle.schedule_text.specs.declared.line.Line.TheVariants.{Quiet, Answer};
-ghost use Rattle.schedule_text.specs.Recorder.{report_text};
+ghost use Rattle.schedule_text.specs.Recorder.{kept_of, report_text};
 ghost use Rattle.split_model.specs.Happening.{Happening, lines_at};
 ghost use Rattle.machine_pipeline.specs.Allowed.{IsServed};
 ghost use Rattle.report_laws.specs.Begun.{IsBegun, IsBegunSoFar};
@@ -30,6 +30,8 @@ ghost use Rattle.report_laws.specs.AtRest.{IsAtRest};
 ghost use Rattle.report_laws.specs.QuietRing.{IsQuietRing};
 ghost use Rattle.report_laws.specs.States.{AreStatesAgreed};
 ghost use Rattle.report_laws.specs.Ports.{AreFewPorts};
+ghost use Rattle.report_laws.specs.Settled.{IsSettled, AreSettled};
+ghost use Rattle.split_model.specs.Report.{report_of, ended_report_of};
 ghost use Rattle.report_laws.specs.Grammar.{AreInGrammar, IsInGrammar};
 ghost use Rattle.report_laws.specs.Reports.{OfEachReport, OfEachEnded, OfServedReports, OfServedEnded, OfShortReports, OfShortEnded, OfPlainReports, OfPlainEnded, OfPlainMachines, OfAgreedReports, OfAgreedEnded};
 ghost use Rattle.report_laws.specs.Wrong.{begun_twice, moved, ready_late, unserved, unread, connected_alone, closed_unsaid, ready_before, answered_before, connected_before, five_ports};
@@ -85,6 +87,15 @@ pub fn no_front_makes_more_than_four_ports()
     ensures report { OfEachReport (λ config detail report. AreFewPorts report) }
     ensures ended { OfEachEnded (λ config detail report. AreFewPorts report) }
     ensures before { (first more : List Line) → AreFewPorts (first ++ more) → AreFewPorts first }
+{}
+
+/// No line says that a `settle` ran out of rounds, where each settling ended in quiet (`AreSettled`).
+pub fn no_report_is_unsettled_where_settling_ends()
+    ensures report { (config : Options) (detail : Detail) (history : List Happening) → AreSettled history
+        → IsSettled (kept_of detail (report_of config detail history)) }
+    ensures ended { (config : Options) (detail : Detail) (history : List Happening) → AreSettled history
+        → IsSettled (kept_of detail (ended_report_of config detail history)) }
+    ensures before { (first more : List Line) → IsSettled (first ++ more) → IsSettled first }
 {}
 
 /// Each line is one of the grammar, and the report's text gives back exactly its lines, whatever

@@ -15,7 +15,7 @@ use Rattle.pipeline_laws.specs.Pipeline.{Pipeline}
 use Rattle.split_model.specs.Happening.{job_turn, job_after}
 use Rattle.machine_pipeline.proofs.Over.{IsKept}
 use Rattle.vbd_model.specs.World.{World, is_quiet}
-use Rattle.vbd_model.specs.Happening.{Happening, FrontMoves, BackMoves, JobMoves, front_turn, back_turn, happens, after, DiskRuns}
+use Rattle.vbd_model.specs.Happening.{Happening, FrontMoves, BackMoves, JobMoves, front_turn, back_turn, happens, after}
 use Rattle.vbd_model.specs.Kind.{AreEachJobs, AreAllJobs, IsRound, AreRounds, round_start}
 use Rattle.vbd_model.proofs.Running.{after-append}
 use Rattle.vbd_laws.specs.Moves.{IsNoMove}
@@ -23,6 +23,7 @@ use Rattle.vbd_laws.proofs.MovesFront.{front_move_none}
 use Rattle.vbd_laws.proofs.MovesBack.{back_move_none}
 use Rattle.vbd_laws.proofs.ServedHonest.{Honest}
 use Rattle.settle_laws.specs.Total.{total_left}
+use Rattle.settle_laws.specs.Calls.{IsCall, AreCalls}
 use Rattle.settle_laws.proofs.Falling.{Falls, Stays}
 use Rattle.settle_laws.proofs.Idle.{rests_quiet, waits_where}
 use Rattle.settle_laws.proofs.Resting.{back_rests}
@@ -77,9 +78,9 @@ module _ (config : Options) (falls : EachFalls config) where
       (no_more config (total_left (happens w move) one.pipeline) (total_left w d) (after hs (happens w move)) one.no_more rest)
 
   -- the first of them, where neither end has an act and not all is quiet
-  pub jobs_fall : (hs : List Happening) (w : World) (d : Pipeline) (a b : DiskSeen) → IsKept config w.rings d → Stands config w → front_turn w ≡ None → back_turn w ≡ None → is_quiet w ≡ false
-      → AreAllJobs w hs → DiskRuns hs w a b → Falls config (total_left w d) (after hs w)
-  jobs_fall hs w d a b kept s front back busy all runs = by_works w.rings.back.jobs.works refl
+  pub jobs_fall : (hs : List Happening) (w : World) (d : Pipeline) → IsKept config w.rings d → Stands config w → front_turn w ≡ None → back_turn w ≡ None → is_quiet w ≡ false
+      → AreAllJobs w hs → AreCalls hs w → Falls config (total_left w d) (after hs w)
+  jobs_fall hs w d kept s front back busy all runs = by_works w.rings.back.jobs.works refl
     where
       fit : IsFit w
       fit = let honest = s.honest in honest.stands.fit
@@ -88,16 +89,15 @@ module _ (config : Options) (falls : EachFalls config) where
       waits = waits_where w fit (back_rests w back).0
 
       by_hs : (t : Work) (rest : List Work) → w.rings.back.jobs.works ≡ t ∷ rest → is_done t ≡ false → is_some w.rings.back.halted ≡ false → 1 ≤ t.number
-          → (xs : List Happening) (to : ℕ) → AreEachJobs 0 to w xs → next_job_of (let v : World = after xs w in v.rings.back) to ≡ None → DiskRuns xs w a b → Falls config (total_left w d) (after xs w)
+          → (xs : List Happening) (to : ℕ) → AreEachJobs 0 to w xs → next_job_of (let v : World = after xs w in v.rings.back) to ≡ None → AreCalls xs w → Falls config (total_left w d) (after xs w)
       by_hs t rest held undone unhalted counted [] to each last run =
           absurd (none-some t.number (sym (subst (λ (n : ℕ). next_job_of w.rings.back n ≡ None) each last) ∙ first_is_next w.rings (jobs_wait_so config w s) t rest held undone unhalted counted))
       by_hs t rest held undone unhalted counted (x ∷ xs) to each last run =
           let move : Happening = JobMoves each.0 each.1 in
           let is_first : each.0 ≡ t.number = same_Some each.0 t.number (sym each.4 ∙ first_is_next w.rings (jobs_wait_so config w s) t rest held undone unhalted counted) in
-          let ran : DiskRuns (move ∷ xs) w a b = subst (λ (y : Happening). DiskRuns (y ∷ xs) w a b) each.2 run in
-          let call : (c : DiskSeen) × DiskDoes (job_ask_of w.rings.back each.0) each.1 a c = (ran.1.0, ran.1.1) in
+          let call : (before : DiskSeen) × (after : DiskSeen) × DiskDoes (job_ask_of w.rings.back each.0) each.1 before after = subst (IsCall w) each.2 run.0 in
           let acts : job_turn w.rings t.number each.1 ≢ None =
-          first_acts w.rings (jobs_wait_so config w s) t rest held undone unhalted each.1 a call.0 (subst (λ (n : ℕ). DiskDoes (job_ask_of w.rings.back n) each.1 a call.0) is_first call.1) in
+          first_acts w.rings (jobs_wait_so config w s) t rest held undone unhalted each.1 call.0 call.1 (subst (λ (n : ℕ). DiskDoes (job_ask_of w.rings.back n) each.1 call.0 call.1) is_first call.2) in
           let one : Falls config (total_left w d) (happens w move) = first_falls each.0 each.1 each.3 (subst (λ (n : ℕ). job_turn w.rings n each.1 ≢ None) (sym is_first) acts) in
           let later : AreEachJobs each.0 to (happens w move) xs = subst (λ (y : Happening). AreEachJobs each.0 to (happens w y) xs) each.2 each.5 in
           let rest_stays : Stays config (total_left (happens w move) one.pipeline) (after xs (happens w move)) =

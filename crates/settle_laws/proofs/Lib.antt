@@ -6,3 +6,6 @@ pub mod Undone
 pub mod Standing
 pub mod JobRounds
 pub mod Rounds
+pub mod Ends
+pub mod Events
+pub mod Schedules

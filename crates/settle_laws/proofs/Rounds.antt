@@ -2,12 +2,11 @@
 use Rattle.std.proofs.Common.{◌≡◌, ◌∙◌, ◌⊎◌, ap, sym, subst, inl, inr, ℕ, zero, suc, ◌+◌, ◌≤◌, ◌<◌, Bool, true, false, List, [], ◌∷◌, ◌++◌, refl, arith}
 use Rattle.std.specs.Prelude.{Option, Some, None}
 use Rattle.blk_base.specs.Options.{Options}
-use Rattle.blk_io.specs.Disk.{DiskSeen}
 use Rattle.hypervisor.specs.Act.{FrontAct, BackAct}
 use Rattle.pipeline_laws.specs.Pipeline.{Pipeline}
 use Rattle.machine_pipeline.proofs.Over.{IsKept}
 use Rattle.vbd_model.specs.World.{World, is_quiet}
-use Rattle.vbd_model.specs.Happening.{Happening, FrontMoves, BackMoves, JobMoves, front_turn, back_turn, happens, after, DiskRuns}
+use Rattle.vbd_model.specs.Happening.{Happening, FrontMoves, BackMoves, JobMoves, front_turn, back_turn, happens, after}
 use Rattle.vbd_model.specs.Kind.{AreEachJobs, AreAllJobs, IsRound, AreRounds, AreRoundsUntilQuiet, round_start, settle_bound}
 use Rattle.vbd_model.specs.Fit.{IsFit}
 use Rattle.vbd_model.proofs.Running.{after-append}
@@ -15,16 +14,15 @@ use Rattle.vbd_laws.specs.Moves.{IsNoMove}
 use Rattle.vbd_laws.proofs.MovesFront.{front_move_none}
 use Rattle.vbd_laws.proofs.MovesBack.{back_move_none}
 use Rattle.settle_laws.specs.Total.{total_left}
+use Rattle.settle_laws.specs.Calls.{AreCalls}
 use Rattle.settle_laws.proofs.Falling.{Falls, Stays}
 use Rattle.settle_laws.proofs.Standing.{Stands, stands_on}
 use Rattle.settle_laws.proofs.JobRounds.{EachFalls, no_more, less_still, as_it_was, fell_stays, jobs_stay, jobs_fall}
 
--- the disk ran through the one part, and then through the other
-runs_apart : (first rest : List Happening) (w : World) (a b : DiskSeen) → DiskRuns (first ++ rest) w a b → (c : DiskSeen) × DiskRuns first w a c × DiskRuns rest (after first w) c b
-runs_apart [] rest w a b runs = (a, refl, runs)
-runs_apart (h ∷ first) rest w a b runs =
-    let later = runs_apart first rest (happens w h) runs.0 b runs.2 in
-    (later.0, (runs.0, runs.1, later.1), later.2)
+-- the calls of the one part, and then those of the other
+pub calls_apart : (first rest : List Happening) (w : World) → AreCalls (first ++ rest) w → AreCalls first w × AreCalls rest (after first w)
+calls_apart [] rest w calls = (tt, calls)
+calls_apart (h ∷ first) rest w calls = let later = calls_apart first rest (happens w h) calls.1 in ((calls.0, later.0), later.1)
 
 -- after some moves of jobs the machine stands as before them
 jobs_stand : (config : Options) (from to : ℕ) (hs : List Happening) (w : World) → Stands config w → AreEachJobs from to w hs → Stands config (after hs w)
@@ -35,9 +33,9 @@ jobs_stand config from to (h ∷ hs) w s are =
 
 module _ (config : Options) (falls : EachFalls config) where
   -- the back moves, and then each job
-  back_falls : (hs : List Happening) (w : World) (d : Pipeline) (a b : DiskSeen) → IsKept config w.rings d → Stands config w → front_turn w ≡ None → is_quiet w ≡ false
-      → AreAllJobs (happens w BackMoves) hs → DiskRuns hs (happens w BackMoves) a b → Falls config (total_left w d) (after hs (happens w BackMoves))
-  back_falls hs w d a b kept s front busy all runs = by_act (back_turn w) refl
+  back_falls : (hs : List Happening) (w : World) (d : Pipeline) → IsKept config w.rings d → Stands config w → front_turn w ≡ None → is_quiet w ≡ false
+      → AreAllJobs (happens w BackMoves) hs → AreCalls hs (happens w BackMoves) → Falls config (total_left w d) (after hs (happens w BackMoves))
+  back_falls hs w d kept s front busy all runs = by_act (back_turn w) refl
     where
       fit : IsFit w
       fit = let honest = s.honest in honest.stands.fit
@@ -46,7 +44,7 @@ module _ (config : Options) (falls : EachFalls config) where
       by_act None e =
           let still : IsNoMove w BackMoves = back_move_none w fit e in
           subst (λ (v : World). Falls config (total_left w d) (after hs v)) (sym still.world)
-          (jobs_fall config falls hs w d a b kept s front e busy (subst (λ (v : World). AreAllJobs v hs) still.world all) (subst (λ (v : World). DiskRuns hs v a b) still.world runs))
+          (jobs_fall config falls hs w d kept s front e busy (subst (λ (v : World). AreAllJobs v hs) still.world all) (subst (λ (v : World). AreCalls hs v) still.world runs))
       by_act (Some act) e =
           let honest = s.honest in
           let fell : Falls config (total_left w d) (happens w BackMoves) = falls.back w d honest kept act e in
@@ -69,9 +67,9 @@ module _ (config : Options) (falls : EachFalls config) where
       by_act (Some act) e = let honest = s.honest in then_jobs (fell_stays config (total_left w d) (happens w BackMoves) (falls.back w d honest kept act e))
 
   -- a round
-  round_falls : (jobs : List Happening) (w : World) (d : Pipeline) (a b : DiskSeen) → IsKept config w.rings d → Stands config w → is_quiet w ≡ false
-      → AreAllJobs (after round_start w) jobs → DiskRuns (round_start ++ jobs) w a b → Falls config (total_left w d) (after (round_start ++ jobs) w)
-  round_falls jobs w d a b kept s busy all runs = by_act (front_turn w) refl
+  round_falls : (jobs : List Happening) (w : World) (d : Pipeline) → IsKept config w.rings d → Stands config w → is_quiet w ≡ false
+      → AreAllJobs (after round_start w) jobs → AreCalls (round_start ++ jobs) w → Falls config (total_left w d) (after (round_start ++ jobs) w)
+  round_falls jobs w d kept s busy all runs = by_act (front_turn w) refl
     where
       fit : IsFit w
       fit = let honest = s.honest in honest.stands.fit
@@ -80,7 +78,7 @@ module _ (config : Options) (falls : EachFalls config) where
       by_act None e =
           let still : IsNoMove w FrontMoves = front_move_none w fit e in
           subst (λ (v : World). Falls config (total_left w d) (after jobs (happens v BackMoves))) (sym still.world)
-          (back_falls jobs w d runs.2.0 b kept s e busy (subst (λ (v : World). AreAllJobs (happens v BackMoves) jobs) still.world all) (subst (λ (v : World). DiskRuns jobs (happens v BackMoves) runs.2.0 b) still.world runs.2.2))
+          (back_falls jobs w d kept s e busy (subst (λ (v : World). AreAllJobs (happens v BackMoves) jobs) still.world all) (subst (λ (v : World). AreCalls jobs (happens v BackMoves)) still.world runs.1.1))
       by_act (Some act) e =
           let honest = s.honest in
           let fell : Falls config (total_left w d) (happens w FrontMoves) = falls.front w d honest kept act e in
@@ -88,27 +86,27 @@ module _ (config : Options) (falls : EachFalls config) where
           (back_stays jobs (happens w FrontMoves) fell.pipeline fell.kept (stands_on config w FrontMoves tt tt s) all)
 
   -- so many rounds
-  rounds_fall : (count : ℕ) (hs : List Happening) (w : World) (d : Pipeline) (a b : DiskSeen) → IsKept config w.rings d → Stands config w → AreRounds is_quiet count w hs → DiskRuns hs w a b → count ≤ total_left w d
-  rounds_fall zero hs w d a b kept s are runs = omega arith
-  rounds_fall (suc count) hs w d a b kept s are runs =
+  rounds_fall : (count : ℕ) (hs : List Happening) (w : World) (d : Pipeline) → IsKept config w.rings d → Stands config w → AreRounds is_quiet count w hs → AreCalls hs w → count ≤ total_left w d
+  rounds_fall zero hs w d kept s are runs = omega arith
+  rounds_fall (suc count) hs w d kept s are runs =
       let first : List Happening = are.1.0 in
       let rest : List Happening = are.1.1 in
       let round : IsRound w first = are.1.3 in
-      let apart = runs_apart first rest w a b (subst (λ (xs : List Happening). DiskRuns xs w a b) are.1.2 runs) in
+      let apart = calls_apart first rest w (subst (λ (xs : List Happening). AreCalls xs w) are.1.2 runs) in
       let fell : Falls config (total_left w d) (after (round_start ++ round.jobs) w) =
-      round_falls round.jobs w d a apart.0 kept s are.0 round.are_jobs (subst (λ (xs : List Happening). DiskRuns xs w a apart.0) round.all apart.1) in
+      round_falls round.jobs w d kept s are.0 round.are_jobs (subst (λ (xs : List Happening). AreCalls xs w) round.all apart.0) in
       let same : after first w ≡ after (round_start ++ round.jobs) w = ap (λ (xs : List Happening). after xs w) round.all in
       let next : Stands config (after (round_start ++ round.jobs) w) =
       jobs_stand config 0 (let all = round.are_jobs in all.to) round.jobs (after round_start w) (stands_on config (happens w FrontMoves) BackMoves tt tt (stands_on config w FrontMoves tt tt s)) (let all = round.are_jobs in all.each) in
       let later : count ≤ total_left (after (round_start ++ round.jobs) w) fell.pipeline =
-      rounds_fall count rest (after (round_start ++ round.jobs) w) fell.pipeline apart.0 b fell.kept next (subst (λ (v : World). AreRounds is_quiet count v rest) same are.1.4) (subst (λ (v : World). DiskRuns rest v apart.0 b) same apart.2) in
+      rounds_fall count rest (after (round_start ++ round.jobs) w) fell.pipeline fell.kept next (subst (λ (v : World). AreRounds is_quiet count v rest) same are.1.4) (subst (λ (v : World). AreCalls rest v) same apart.1) in
       let less = fell.less in
       omega (arith, later, less)
 
   -- settling ends in quiet where less is left than its bound
-  pub settles_quiet : (hs : List Happening) (w : World) (d : Pipeline) (a b : DiskSeen) → IsKept config w.rings d → Stands config w → total_left w d < settle_bound w
-      → AreRoundsUntilQuiet (settle_bound w) w hs → DiskRuns hs w a b → is_quiet (after hs w) ≡ true
-  settles_quiet hs w d a b kept s few rounds runs = elim rounds.over [
-    | inl all ↦ (let most = rounds_fall rounds.count hs w d a b kept s rounds.are_rounds runs in absurd (omega (arith, all, most, few)))
+  pub settles_quiet : (hs : List Happening) (w : World) (d : Pipeline) → IsKept config w.rings d → Stands config w → total_left w d < settle_bound w
+      → AreRoundsUntilQuiet (settle_bound w) w hs → AreCalls hs w → is_quiet (after hs w) ≡ true
+  settles_quiet hs w d kept s few rounds runs = elim rounds.over [
+    | inl all ↦ (let most = rounds_fall rounds.count hs w d kept s rounds.are_rounds runs in absurd (omega (arith, all, most, few)))
     | inr quiet ↦ quiet
   ]
