@@ -9,3 +9,5 @@ pub mod Rounds
 pub mod Ends
 pub mod Events
 pub mod Schedules
+pub mod Bounded
+pub mod Settling

@@ -22,7 +22,7 @@ use Rattle.settle_laws.proofs.Rounds.{calls_apart, settles_quiet}
 use Rattle.settle_laws.proofs.Ends.{ends_at, ends_until}
 use Rattle.settle_laws.proofs.Events.{Made, Moving, Quietly, Settling, Touching, made_of, made_so_far, moves_untouched, moves_until, rounds_moves}
 
-stands_all : (config : Options) (hs : List Happening) (w : World) → AreUntouched hs → ArePossible hs w → Stands config w → Stands config (after hs w)
+pub stands_all : (config : Options) (hs : List Happening) (w : World) → AreUntouched hs → ArePossible hs w → Stands config w → Stands config (after hs w)
 stands_all config [] w untouched possible s = s
 stands_all config (h ∷ hs) w untouched possible s = stands_all config hs (happens w h) untouched.1 possible.1 (stands_on config w h untouched.0 possible.0 s)
 
@@ -40,7 +40,7 @@ abbrev pub IsBounded : Options → Type 0
 IsBounded config = (w : World) (d : Pipeline) → Honest config w → IsKept config w.rings d → total_left w d < settle_bound w
 
 module _ (config : Options) (falls : EachFalls config) (bounded : IsBounded config) where
-  settling_quiet : (w : World) (rounds : List Happening) → Stands config w → AreRoundsUntilQuiet (settle_bound w) w rounds → AreCalls rounds w → is_quiet (after rounds w) ≡ true
+  pub settling_quiet : (w : World) (rounds : List Happening) → Stands config w → AreRoundsUntilQuiet (settle_bound w) w rounds → AreCalls rounds w → is_quiet (after rounds w) ≡ true
   settling_quiet w rounds s are calls =
       let honest = s.honest in
       let standing = honest.standing in
