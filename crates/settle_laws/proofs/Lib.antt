@@ -1,4 +1,16 @@
 pub mod Falling
+pub mod NegotiationBound
+pub mod NegotiationFront
+pub mod NegotiationBack
+pub mod BackTurnsGiven
+pub mod TurnsGone
+pub mod TurnsServed
+pub mod BackTurnsTerms
+pub mod FrontTurnsAgreed
+pub mod TurnsMade
+pub mod FrontTurns
+pub mod BackTurns
+pub mod JobTurns
 pub mod Resting
 pub mod Idle
 pub mod Working
@@ -8,6 +20,7 @@ pub mod JobRounds
 pub mod Rounds
 pub mod Ends
 pub mod Events
+pub mod LateTurns
 pub mod Schedules
 pub mod Bounded
 pub mod Settling

@@ -1,6 +1,6 @@
 -- A round that is begun where not all is quiet leaves less to do; so there are fewer rounds than there was left to do.
-use Rattle.std.proofs.Common.{◌≡◌, ◌∙◌, ◌⊎◌, ap, sym, subst, inl, inr, ℕ, zero, suc, ◌+◌, ◌≤◌, ◌<◌, Bool, true, false, List, [], ◌∷◌, ◌++◌, refl, arith}
-use Rattle.std.specs.Prelude.{Option, Some, None}
+use Rattle.std.proofs.Common.{◌≡◌, ◌∙◌, ◌⊎◌, ap, sym, subst, inl, inr, ℕ, zero, suc, ◌+◌, ◌≤◌, ◌<◌, Bool, true, false, cond, List, [], ◌∷◌, ◌++◌, refl, arith}
+use Rattle.std.specs.Prelude.{Option, Some, None, is_some}
 use Rattle.blk_base.specs.Options.{Options}
 use Rattle.hypervisor.specs.Act.{FrontAct, BackAct}
 use Rattle.pipeline_laws.specs.Pipeline.{Pipeline}
@@ -13,6 +13,8 @@ use Rattle.vbd_model.proofs.Running.{after-append}
 use Rattle.vbd_laws.specs.Moves.{IsNoMove}
 use Rattle.vbd_laws.proofs.MovesFront.{front_move_none}
 use Rattle.vbd_laws.proofs.MovesBack.{back_move_none}
+use Rattle.ring_settle_laws.specs.Left.{unseen_left}
+use Rattle.ring_settle_laws.proofs.BoundRing.{late_left}
 use Rattle.settle_laws.specs.Total.{total_left}
 use Rattle.settle_laws.specs.Calls.{AreCalls}
 use Rattle.settle_laws.proofs.Falling.{Falls, Stays}
@@ -30,6 +32,22 @@ jobs_stand config from to [] w s are = s
 jobs_stand config from to (h ∷ hs) w s are =
     let next : Stands config (happens w h) = subst (λ (x : Happening). Stands config (happens w x)) (sym are.2) (stands_on config w (JobMoves are.0 are.1) tt are.3 s) in
     jobs_stand config are.0 to hs (happens w h) next are.5
+
+-- so many rounds ran, and each took from what was left
+record HasRun (count : ℕ) (w : World) (d : Pipeline) (v : World) : Type 0 where
+  pipeline : Pipeline
+  less : total_left v pipeline + count ≤ total_left w d
+
+one_more : (count : ℕ) (w now v : World) (d e : Pipeline) → total_left now e + 1 ≤ total_left w d → HasRun count now e v → HasRun (suc count) w d v
+one_more count w now v d e less ran = record { pipeline = ran.pipeline; less = let rest = ran.less in omega (arith, less, rest) }
+
+-- what no end looks for is some of what is left
+late_within : (w : World) (d : Pipeline) → late_left w.rings ≤ total_left w d
+late_within w d = by_halt (is_some w.rings.back.halted)
+  where
+    by_halt : (b : Bool) → cond b (unseen_left w.rings) 0 ≤ total_left w d
+    by_halt true = omega arith
+    by_halt false = omega arith
 
 module _ (config : Options) (falls : EachFalls config) where
   -- the back moves, and then each job
@@ -86,27 +104,31 @@ module _ (config : Options) (falls : EachFalls config) where
           (back_stays jobs (happens w FrontMoves) fell.pipeline fell.kept (stands_on config w FrontMoves tt tt s) all)
 
   -- so many rounds
-  rounds_fall : (count : ℕ) (hs : List Happening) (w : World) (d : Pipeline) → IsKept config w.rings d → Stands config w → AreRounds is_quiet count w hs → AreCalls hs w → count ≤ total_left w d
-  rounds_fall zero hs w d kept s are runs = omega arith
-  rounds_fall (suc count) hs w d kept s are runs =
+  rounds_fall : (count : ℕ) (hs : List Happening) (w : World) (d : Pipeline) → IsKept config w.rings d → Stands config w → AreRounds is_quiet count w hs → AreCalls hs w → HasRun count w d (after hs w)
+  rounds_fall zero hs w d kept s are calls = subst (λ (xs : List Happening). HasRun 0 w d (after xs w)) (sym are) (record { pipeline = d; less = omega arith })
+  rounds_fall (suc count) hs w d kept s are calls =
       let first : List Happening = are.1.0 in
       let rest : List Happening = are.1.1 in
       let round : IsRound w first = are.1.3 in
-      let apart = calls_apart first rest w (subst (λ (xs : List Happening). AreCalls xs w) are.1.2 runs) in
-      let fell : Falls config (total_left w d) (after (round_start ++ round.jobs) w) =
-      round_falls round.jobs w d kept s are.0 round.are_jobs (subst (λ (xs : List Happening). AreCalls xs w) round.all apart.0) in
-      let same : after first w ≡ after (round_start ++ round.jobs) w = ap (λ (xs : List Happening). after xs w) round.all in
-      let next : Stands config (after (round_start ++ round.jobs) w) =
+      let apart = calls_apart first rest w (subst (λ (xs : List Happening). AreCalls xs w) are.1.2 calls) in
+      let now : World = after (round_start ++ round.jobs) w in
+      let fell : Falls config (total_left w d) now = round_falls round.jobs w d kept s are.0 round.are_jobs (subst (λ (xs : List Happening). AreCalls xs w) round.all apart.0) in
+      let same : after first w ≡ now = ap (λ (xs : List Happening). after xs w) round.all in
+      let next : Stands config now =
       jobs_stand config 0 (let all = round.are_jobs in all.to) round.jobs (after round_start w) (stands_on config (happens w FrontMoves) BackMoves tt tt (stands_on config w FrontMoves tt tt s)) (let all = round.are_jobs in all.each) in
-      let later : count ≤ total_left (after (round_start ++ round.jobs) w) fell.pipeline =
-      rounds_fall count rest (after (round_start ++ round.jobs) w) fell.pipeline fell.kept next (subst (λ (v : World). AreRounds is_quiet count v rest) same are.1.4) (subst (λ (v : World). AreCalls rest v) same apart.1) in
-      let less = fell.less in
-      omega (arith, later, less)
+      let later : HasRun count now fell.pipeline (after rest now) =
+      rounds_fall count rest now fell.pipeline fell.kept next (subst (λ (v : World). AreRounds is_quiet count v rest) same are.1.4) (subst (λ (v : World). AreCalls rest v) same apart.1) in
+      let whole : after hs w ≡ after rest now = ap (λ (xs : List Happening). after xs w) are.1.2 ∙ (after-append first rest w ∙ ap (after rest) same) in
+      subst (HasRun (suc count) w d) (sym whole) (one_more count w now (after rest now) d fell.pipeline fell.less later)
 
-  -- settling ends in quiet where less is left than its bound
-  pub settles_quiet : (hs : List Happening) (w : World) (d : Pipeline) → IsKept config w.rings d → Stands config w → total_left w d < settle_bound w
-      → AreRoundsUntilQuiet (settle_bound w) w hs → AreCalls hs w → is_quiet (after hs w) ≡ true
-  settles_quiet hs w d kept s few rounds runs = elim rounds.over [
-    | inl all ↦ (let most = rounds_fall rounds.count hs w d kept s rounds.are_rounds runs in absurd (omega (arith, all, most, few)))
+  -- settling ends in quiet where less is left than its bound, but for what no end looks for any more
+  pub settles_quiet : (hs : List Happening) (w : World) (d : Pipeline) → IsKept config w.rings d → Stands config w → total_left w d < settle_bound w + late_left w.rings
+      → AreRoundsUntilQuiet (settle_bound w) w hs → AreCalls hs w → late_left w.rings ≤ late_left (let v : World = after hs w in v.rings) → is_quiet (after hs w) ≡ true
+  settles_quiet hs w d kept s few rounds calls late = elim rounds.over [
+    | inl all ↦
+        (let ran : HasRun rounds.count w d (after hs w) = rounds_fall rounds.count hs w d kept s rounds.are_rounds calls in
+        let less = ran.less in
+        let least : late_left (let v : World = after hs w in v.rings) ≤ total_left (after hs w) ran.pipeline = late_within (after hs w) ran.pipeline in
+        absurd (omega (arith, all, less, least, few, late)))
     | inr quiet ↦ quiet
   ]

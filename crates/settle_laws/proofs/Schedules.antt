@@ -1,5 +1,5 @@
 -- Each settling of a schedule ends in quiet, up to the first word or key that a hostile hand overwrites.
-use Rattle.std.proofs.Common.{◌≡◌, ◌∙◌, ap, sym, subst, ℕ, ◌<◌, ◌&&◌, Bool, true, List, [], ◌∷◌, ◌++◌, refl, append_assoc}
+use Rattle.std.proofs.Common.{◌≡◌, ◌∙◌, ap, sym, subst, ℕ, ◌+◌, ◌<◌, ◌&&◌, Bool, true, List, [], ◌∷◌, ◌++◌, refl, append_assoc}
 use Rattle.std.proofs.lemmas.List.{append-nil}
 use Rattle.blk_base.specs.Options.{Options}
 use Rattle.schedule_text.specs.Range.{AreOptions}
@@ -11,16 +11,19 @@ use Rattle.vbd_model.specs.Happening.{Happening, Settles, Pokes, OverwritesKey, 
 use Rattle.vbd_model.specs.Kind.{are_carried, AreOfAll, AreOfSoFar, AreRoundsUntilQuiet, settle_bound}
 use Rattle.vbd_model.specs.Possible.{IsPossible, ArePossible}
 use Rattle.vbd_model.proofs.Running.{after-append}
-use Rattle.vbd_model.proofs.Possible.{event_possible, event_so_far_possible}
+use Rattle.vbd_model.proofs.Possible.{possible_first, event_possible, event_so_far_possible}
 use Rattle.vbd_laws.specs.Quiet.{AreUntouched}
-use Rattle.vbd_laws.proofs.ServedHonest.{Honest, honest_start}
+use Rattle.vbd_laws.proofs.ServedHonest.{honest_start}
+use Rattle.ring_settle_laws.proofs.BoundRing.{late_left}
+use Rattle.ring_settle_laws.proofs.Calm.{calm_start}
 use Rattle.settle_laws.specs.Total.{total_left}
 use Rattle.settle_laws.specs.Calls.{AreCalls}
 use Rattle.settle_laws.proofs.Standing.{Stands, stands_on}
 use Rattle.settle_laws.proofs.JobRounds.{EachFalls}
 use Rattle.settle_laws.proofs.Rounds.{calls_apart, settles_quiet}
 use Rattle.settle_laws.proofs.Ends.{ends_at, ends_until}
-use Rattle.settle_laws.proofs.Events.{Made, Moving, Quietly, Settling, Touching, made_of, made_so_far, moves_untouched, moves_until, rounds_moves}
+use Rattle.settle_laws.proofs.LateTurns.{moves_late}
+use Rattle.settle_laws.proofs.Events.{AreMoves, Made, Moving, Quietly, Settling, Touching, made_of, made_so_far, moves_untouched, moves_until, rounds_moves}
 
 pub stands_all : (config : Options) (hs : List Happening) (w : World) → AreUntouched hs → ArePossible hs w → Stands config w → Stands config (after hs w)
 stands_all config [] w untouched possible s = s
@@ -35,16 +38,17 @@ single_until (Pokes frame word value) rest ends later = refl
 single_until (OverwritesKey name text) rest ends later = refl
 single_until h rest ends later = rw (ends, later) refl
 
--- less is left than settling's bound of rounds
+-- less is left than settling's bound of rounds, but for what no end looks for any more
 abbrev pub IsBounded : Options → Type 0
-IsBounded config = (w : World) (d : Pipeline) → Honest config w → IsKept config w.rings d → total_left w d < settle_bound w
+IsBounded config = (w : World) (d : Pipeline) → Stands config w → IsKept config w.rings d → total_left w d < settle_bound w + late_left w.rings
 
 module _ (config : Options) (falls : EachFalls config) (bounded : IsBounded config) where
-  pub settling_quiet : (w : World) (rounds : List Happening) → Stands config w → AreRoundsUntilQuiet (settle_bound w) w rounds → AreCalls rounds w → is_quiet (after rounds w) ≡ true
-  settling_quiet w rounds s are calls =
+  pub settling_quiet : (w : World) (rounds : List Happening) → Stands config w → ArePossible rounds w → AreRoundsUntilQuiet (settle_bound w) w rounds → AreCalls rounds w → is_quiet (after rounds w) ≡ true
+  settling_quiet w rounds s possible are calls =
       let honest = s.honest in
       let standing = honest.standing in
-      settles_quiet config falls rounds w standing.pipeline standing.kept s (bounded w standing.pipeline honest standing.kept) are calls
+      let moves : AreMoves rounds = rounds_moves is_quiet are.count w rounds are.are_rounds in
+      settles_quiet config falls rounds w standing.pipeline standing.kept s (bounded w standing.pipeline s standing.kept) are calls (moves_late config rounds w moves possible s)
 
   -- each settling of an event ends in quiet, where what follows it is so of a machine that no hostile hand touched
   event_until : (w : World) (hs rest : List Happening) → Made w hs → Stands config w → ArePossible hs w → AreCalls hs w → (Stands config (after hs w) → ends_until rest ≡ true) → ends_until (hs ++ rest) ≡ true
@@ -53,7 +57,7 @@ module _ (config : Options) (falls : EachFalls config) (bounded : IsBounded conf
   event_until w hs rest (Settling v rounds are) s possible calls later =
       let apart = calls_apart rounds (Settles (is_quiet (after rounds v)) ∷ []) v calls in
       let moves = rounds_moves is_quiet are.count v rounds are.are_rounds in
-      let quiet = settling_quiet v rounds s are apart.0 in
+      let quiet = settling_quiet v rounds s (possible_first rounds (Settles (is_quiet (after rounds v)) ∷ []) v possible) are apart.0 in
       let all : AreUntouched (rounds ++ Settles (is_quiet (after rounds v)) ∷ []) = untouched_both rounds (Settles (is_quiet (after rounds v)) ∷ []) (moves_untouched rounds moves) (tt, tt) in
       subst (λ (hs : List Happening). ends_until hs ≡ true) (sym (append_assoc rounds (Settles (is_quiet (after rounds v)) ∷ []) rest))
       (moves_until rounds (Settles (is_quiet (after rounds v)) ∷ rest) moves
@@ -86,4 +90,4 @@ module _ (config : Options) (falls : EachFalls config) (bounded : IsBounded conf
 
 -- the machine at the start
 pub stands_first : (config : Options) → are_carried config ≡ true → AreOptions config → Stands config (start_of config)
-stands_first config carried options = record { honest = honest_start config carried options; history = []; come = refl }
+stands_first config carried options = record { honest = honest_start config carried options; history = []; come = refl; calm = calm_start config }

@@ -3,8 +3,9 @@ use Rattle.std.proofs.Common.{◌≡◌, ◌∙◌, ℕ, List, [], ◌∷◌, �
 use Rattle.std.specs.Prelude.{true}
 use Rattle.blk_base.specs.Options.{Options}
 use Rattle.blk_io.specs.Disk.{DiskSeen}
-use Rattle.vbd_model.specs.World.{World, start_of}
+use Rattle.vbd_model.specs.World.{World, start_of, is_quiet}
 use Rattle.vbd_model.specs.Happening.{Happening, FrontMoves, BackMoves, JobMoves, Closes, Submits, Notifies, Pokes, OverwritesKey, Suspends, Dumps, Looks, Settles, DiskGoes, DiskRuns, happens, after}
+use Rattle.vbd_model.proofs.Possible.{rounds_possible}
 use Rattle.settle_laws.specs.Calls.{IsCall, AreCalls}
 use Rattle.settle_laws.specs.Laws.{EachSettlingEnds, EachScheduleSettles, EachBeginningSettles}
 use Rattle.settle_laws.proofs.Standing.{Stands}
@@ -15,7 +16,9 @@ use Rattle.settle_laws.proofs.Bounded.{each_falls, is_bounded}
 pub each_settling_ends : EachSettlingEnds
 each_settling_ends config history rounds carried options possible untouched are calls =
     let start : Stands config (start_of config) = stands_first config carried options in
-    settling_quiet config (each_falls config) (is_bounded config) (after history (start_of config)) rounds (stands_all config history (start_of config) untouched possible start) are calls
+    let w : World = after history (start_of config) in
+    settling_quiet config (each_falls config) (is_bounded config) w rounds (stands_all config history (start_of config) untouched possible start)
+    (rounds_possible is_quiet are.count w rounds are.are_rounds) are calls
 
 pub each_schedule_settles : EachScheduleSettles
 each_schedule_settles config schedule history carried options are calls =

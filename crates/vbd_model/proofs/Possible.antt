@@ -53,7 +53,7 @@ begun_possible w hs jobs to all each =
     as_possible hs (round_start ++ jobs) w all
     (possible_append round_start jobs w (round_start_possible w) (each_possible 0 to jobs (after round_start w) each))
 
-rounds_possible : (test : World → Bool) (n : ℕ) (w : World) (hs : List Happening) → AreRounds test n w hs → ArePossible hs w
+pub rounds_possible : (test : World → Bool) (n : ℕ) (w : World) (hs : List Happening) → AreRounds test n w hs → ArePossible hs w
 rounds_possible test zero w hs r = as_possible hs [] w r tt
 rounds_possible test (suc n) w hs r =
     let p = r.1 in
