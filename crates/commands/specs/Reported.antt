@@ -7,7 +7,10 @@ use Rattle.schedule_text.specs.declared.line.Line.{Line}
 use Rattle.schedule_text.specs.declared.event.Event.{Event}
 use Rattle.schedule_text.specs.Recorder.{report_text}
 use Rattle.plain_disk.specs.Echo.{Echoes}
+use Rattle.plain_disk.specs.Honest.{honest_part}
+use Rattle.pipeline_laws.specs.Effects.{IsOfADisk}
 use Rattle.machine_pipeline.specs.Submissions.{jobs_of}
+use Rattle.legal_laws.specs.Promised.{IsFoundLegal}
 use Rattle.event_laws.specs.Parts.{IsAllByEvents}
 use Rattle.event_laws.specs.Faults.{faults_in, IsRaised}
 use Rattle.schedule_run.specs.Headline.{KeepsTheHeadline}
@@ -20,7 +23,7 @@ use Rattle.commands.specs.declared.status.Stop.TheVariants.{Broken, Length, Word
 use Rattle.commands.specs.Scene.{Scene, options_of, bytes_limit, image_named, with_image, reporting}
 use Rattle.commands.specs.Ending.{FailsToAttach}
 
--- the image of that name is attached, and the output gained the text of a report that echoes the whole schedule, event by event, tells each fault of the disk, and is lawful: a run of the plain disk from what the disk held to what it holds, and more (`schedule_run`)
+-- the image of that name is attached, and the output gained the text of a report that echoes the whole schedule, event by event, tells each fault of the disk, and is lawful: a run of the plain disk from what the disk held to what it holds, and more (`schedule_run`); and a check of it finds it legal, where the disk is one
 pub record IsReported (image : List ℕ) (options : RunOptions) (old new : Scene) : Type 0 where
   pub sectors : ℕ
   pub attached : new.disk.attachment ≡ Some (image_named image options.read_only sectors)
@@ -32,6 +35,7 @@ pub record IsReported (image : List ℕ) (options : RunOptions) (old new : Scene
   pub parts : IsAllByEvents (options_of options sectors) options.detail events report
   pub faults : IsRaised (faults_in report) old.disk.faults new.disk.faults
   pub lawful : IsLawful (options_of options sectors) options.detail (jobs_of events) old.disk.content new.disk.content report
+  pub legal : IsOfADisk sectors old.disk.content (honest_part report) → IsFoundLegal (report_text report)
 
 -- the image of that name is attached, and the output gained the text of a report that keeps the headline
 pub record ReportsTheHeadline (image : List ℕ) (options : RunOptions) (old new : Scene) : Type 0 where

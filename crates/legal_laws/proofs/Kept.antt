@@ -27,7 +27,7 @@ use Rattle.pipeline_laws.proofs.PlainRuns.{after_append, run_before}
 use Rattle.pipeline_laws.proofs.AnsweredRuns.{StandsAfter, stands_after}
 use Rattle.request_check.specs.Rules.{disk_after, is_gone, are_finished, IsStateAt, IsSubmitAt, IsRefuseAt, CanBeAsked, KeepsRequests}
 use Rattle.request_check.proofs.Runs.{run_is_kept}
-use Rattle.legal_laws.specs.Kept.{is_unsettled, IsSettled}
+use Rattle.report_laws.specs.Settled.{is_unsettled, IsSettled}
 use Rattle.legal_laws.specs.Unknown.{forgetting}
 use Rattle.legal_laws.proofs.Lists.{all_there}
 use Rattle.legal_laws.proofs.Unknown.{known_is_unknown}

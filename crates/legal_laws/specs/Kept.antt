@@ -9,15 +9,8 @@ use Rattle.report_rules.specs.Obeys.{Obeys}
 use Rattle.pipeline_laws.specs.Run.{IsRun}
 use Rattle.pipeline_laws.specs.Submissions.{IsAnswerAt, AreAnswered}
 use Rattle.pipeline_laws.specs.States.{AreStates}
+use Rattle.report_laws.specs.Settled.{IsSettled}
 use Rattle.request_check.specs.Rules.{CanBeAsked, KeepsRequests}
-
-abbrev pub is_unsettled : Line → Bool
-is_unsettled lines.Unsettled = true
-is_unsettled line = false
-
--- no `settle` ran out of rounds
-abbrev pub IsSettled : List Line → Type 0
-IsSettled report = All (λ (line : Line). is_unsettled line ≡ false) report
 
 -- a report so far: it answers these submissions, each of which can be asked for
 abbrev pub RunSoFarIsKept : Type 0

@@ -22,7 +22,7 @@ use Rattle.trace_check.specs.Rules.{KeepsAll}
 use Rattle.trace_check.specs.declared.finding.Finding.{Finding}
 use Rattle.trace_check.specs.declared.finding.CheckStop.{CheckStop}
 use Rattle.trace_check.specs.Found.{EndsWell, Finds}
-use Rattle.legal_laws.specs.Kept.{IsSettled}
+use Rattle.report_laws.specs.Settled.{IsSettled}
 use Rattle.legal_laws.specs.Legal.{KeepsMoves}
 use Rattle.legal_laws.specs.Order.{IsBody}
 use Rattle.legal_laws.specs.Found.{FindsLegal}

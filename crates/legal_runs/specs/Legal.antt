@@ -14,16 +14,14 @@ use Rattle.machine_pipeline.specs.Submissions.{jobs_of}
 use Rattle.schedule_run.specs.Lawful.{IsLawful}
 use Rattle.trace_check.specs.Rules.{KeepsAll}
 use Rattle.trace_check.specs.Found.{EndsWell}
-use Rattle.legal_laws.specs.Kept.{IsSettled}
 use Rattle.legal_laws.specs.Promised.{IsFoundLegal}
 
--- a lawful report of these events, of a disk, that never ran out of rounds before a hostile hand first touched it
+-- a lawful report of these events, of a disk
 pub record IsRunReport (config : Options) (detail : Detail) (events : List Event) (before now : Option (List (List ℕ))) (report : List Line) : Type 0 where
   pub lawful : IsLawful config detail (jobs_of events) before now report
   pub disk : IsOfADisk config.sectors before (honest_part report)
   pub echo : Echoes config detail events report
   pub widths : All SubmissionHasWidths (jobs_of events)
-  pub settled : IsSettled (honest_part report)
 
 -- of each such report
 abbrev pub OfRuns : (List Line → Type 0) → Type 0

@@ -160,4 +160,5 @@ lawful_keeps config detail jobs before now report lawful = record {
   disk = λ honest of. let s = lawful.requests honest of in s.disk;
   once = λ honest of. let s = lawful.requests honest of in s.once;
   quiet = λ honest of. let s = lawful.requests honest of in s.quiet;
+  settled = lawful.settled;
 }

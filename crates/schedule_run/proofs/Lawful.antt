@@ -1,6 +1,8 @@
 -- The laws of the machine, of what a recorder keeps of a history's report.
 use Rattle.std.proofs.Common.{◌≡◌, ℕ, ◌^◌, ◌<◌, inl, inr, Bool, true, false, length, List, [], ◌∷◌, ◌++◌, Option, Some, None, refl, ap, sym, ◌∙◌, subst, arith, append_assoc, append-nil, length-append}
+use Rattle.std.specs.List.{list_all}
 use Rattle.std.proofs.lemmas.List.Elements.{All-nil, filter_map-append}
+use Rattle.line_text.proofs.Both.{both_true}
 use Rattle.blk_base.specs.Options.{Options}
 use Rattle.blk_io.specs.Disk.{DiskSeen, HasLength}
 use Rattle.schedule_text.specs.declared.line.Detail.{Detail}
@@ -59,6 +61,8 @@ use Rattle.report_laws.proofs.Texts.{grammar_before}
 use Rattle.report_laws.proofs.Ready.{report_ready, ended_ready}
 use Rattle.report_laws.proofs.QuietRing.{report_quiet, ended_quiet}
 use Rattle.report_laws.proofs.States.{report_agreed, ended_agreed}
+use Rattle.report_laws.specs.Settled.{is_unsettled, IsSettled, ends_quiet, AreSettled}
+use Rattle.report_laws.proofs.Settled.{report_settled, ended_settled, settled_before}
 use Rattle.report_laws.proofs.FewPorts.{report_ports, ended_ports}
 use Rattle.refusal_laws.specs.Ruled.{IsRuledAt, AreRuled}
 use Rattle.refusal_laws.proofs.Serves.{AreServing}
@@ -168,6 +172,7 @@ pub record IsTold (config : Options) (detail : Detail) (history : List Happening
   pub possible : ArePossible history (start_of config)
   pub served : AreServed (honest_history history) (start_of config)
   pub agreed : AreAgreed (honest_history history) (start_of config)
+  pub settled : AreSettled (honest_history history)
   pub serving : AreServing config history
   pub brief : IsBrief config detail history
 
@@ -181,6 +186,15 @@ agreed_before [] rest w are = tt
 agreed_before (Pokes frame word value ∷ first) rest w are = tt
 agreed_before (OverwritesKey name text ∷ first) rest w are = tt
 agreed_before (h ∷ first) rest w are = (are.0, agreed_before first rest (happens w h) are.1)
+
+-- the first part of a history whose settlings end in quiet is one
+pub settled_first : (first rest : List Happening) → AreSettled (honest_history (first ++ rest)) → AreSettled (honest_history first)
+settled_first [] rest are = refl
+settled_first (Pokes frame word value ∷ first) rest are = refl
+settled_first (OverwritesKey name text ∷ first) rest are = refl
+settled_first (h ∷ first) rest are =
+    let both = both_true (ends_quiet h) (list_all ends_quiet (honest_history (first ++ rest))) are in
+    rw (both.0, settled_first first rest both.1) refl
 
 -- both ends' states at `quiet`, where the moves are shown
 alike : (detail : Detail) (config : Options) (history : List Happening) → AreAgreed history (start_of config) → detail ≡ Moves → AreStatesAgreed (kept_of detail (report_of config detail history))
@@ -404,6 +418,7 @@ report_lawful config detail history before now h long runs causes =
           subst (ServesRequestsSoFar (submitted_of history) before.content) (sym same)
           (so_far_served (submitted_of history) before.content first (honest_run config detail history before now h long runs (subst (IsOfADisk config.sectors before.content) same of)));
       ready = subst IsReadyFirst (sym same) (report_ready config detail (honest_history history) (allowed h));
+      settled = subst IsSettled (sym same) (report_settled config detail (honest_history history) h.settled);
       ring = λ moves. subst IsQuietRing (sym same) (report_quiet config detail (honest_history history) h.plain (allowed h) moves);
       agreed = λ moves. subst AreStatesAgreed (sym same) (alike detail config (honest_history history) h.agreed moves);
       ports = λ moves. report_ports config detail history;
@@ -425,6 +440,9 @@ ended_lawful config detail history before now h long runs causes =
       ready =
           of_part config detail history h IsReadyFirst (λ all. ended_ready config detail history (served_whole h all))
           (report_ready config detail (honest_history history) (allowed h));
+      settled =
+          of_part config detail history h IsSettled (λ all. ended_settled config detail history (subst AreSettled all h.settled))
+          (report_settled config detail (honest_history history) h.settled);
       ring = λ moves.
           of_part config detail history h IsQuietRing (λ all. ended_quiet config detail history h.plain (served_whole h all) moves)
           (report_quiet config detail (honest_history history) h.plain (allowed h) moves);
@@ -454,6 +472,7 @@ begun_lawful config detail history before said rest h all run causes =
       refusals = obeys_before (IsRuledAt (submitted_of history)) one other (subst (AreRuled (submitted_of history)) (sym split) (ended_ruled config detail history h));
       honest = λ of. so_far_served (submitted_of history) before (honest_part one) (run of);
       ready = obeys_before IsReadyAt (honest_part one) part.0 (subst (Obeys IsReadyAt) (sym part.1) (ended_ready config detail (honest_history history) (allowed h)));
+      settled = settled_before (honest_part one) part.0 (subst IsSettled (sym part.1) (ended_settled config detail (honest_history history) h.settled));
       ring = λ moves. obeys_before IsQuietRingAt (honest_part one) part.0 (subst (Obeys IsQuietRingAt) (sym part.1) (ended_quiet config detail (honest_history history) h.plain (allowed h) moves));
       agreed = λ moves. obeys_before IsAgreedAt (honest_part one) part.0 (subst (Obeys IsAgreedAt) (sym part.1) (ended_alike detail config (honest_history history) h.agreed moves));
       ports = λ moves. obeys_before IsFewPortsAt one other (subst (Obeys IsFewPortsAt) (sym split) (ended_ports config detail history));
@@ -487,6 +506,7 @@ nothing_lawful config detail jobs before =
         states = obeys_none IsStateAt;
       };
       ready = obeys_none IsReadyAt;
+      settled = All-nil (λ (line : Line). is_unsettled line ≡ false);
       ring = λ same. obeys_none IsQuietRingAt;
       agreed = λ same. obeys_none IsAgreedAt;
       ports = λ same. obeys_none IsFewPortsAt;

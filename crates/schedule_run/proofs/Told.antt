@@ -18,9 +18,9 @@ use Rattle.schedule_text.specs.Recorder.{Told, RecorderSeen, kept_of, recorded, 
 use Rattle.schedule_text.proofs.Adding.{gained_twice, stopped_later}
 use Rattle.plain_disk.specs.Echo.{AnswersAll}
 use Rattle.vbd_model.specs.World.{World, start_of}
-use Rattle.vbd_model.specs.Happening.{Happening, after, lines_at, lines_of, all_does}
+use Rattle.vbd_model.specs.Happening.{Happening, JobMoves, after, lines_at, lines_of, all_does}
 use Rattle.vbd_model.specs.Kind.{AreOf, AreOfAll, AreOfSoFar}
-use Rattle.vbd_model.specs.Leads.{Moment, moment, Leads, StopsShowing, LacksMemory, LeadsToStop, Goes}
+use Rattle.vbd_model.specs.Leads.{Moment, moment, Leads, StopsShowing, LacksMemory, NeedsMemory, LeadsToStop, Goes}
 use Rattle.vbd_model.specs.Report.{report_of, ended_report_of}
 use Rattle.vbd_model.proofs.Running.{lines_of-append, leads_as, stops_on}
 use Rattle.vbd_model.proofs.Echo.{schedule_echo, kept_echo}
@@ -29,6 +29,8 @@ use Rattle.machine_pipeline.specs.Submissions.{jobs_of}
 use Rattle.vbd_model.proofs.Submitting.{events_submit, events_so_far_submit}
 use Rattle.vbd_laws.proofs.Served.{rings_possible, rings_served}
 use Rattle.vbd_laws.proofs.Quiet.{rings_agreed}
+use Rattle.settle_laws.specs.Calls.{IsCall, AreCalls}
+use Rattle.settle_laws.proofs.Settling.{each_schedule_settles, each_beginning_settles, calls_of, calls_more}
 use Rattle.refusal_laws.proofs.Serves.{machine_serves}
 use Rattle.disk_laws.proofs.Before.{HasRunSoFar}
 use Rattle.plain_disk.specs.Honest.{honest_part, IsHonest}
@@ -72,6 +74,7 @@ is_told config events old now h =
       possible = rings_possible config leads.history served.carried served.options (events_possible events (start_of config) leads.history leads.is_kind);
       served = rings_served config leads.history served.carried served.options (events_possible events (start_of config) leads.history leads.is_kind);
       agreed = rings_agreed config leads.history served.carried served.options (events_possible events (start_of config) leads.history leads.is_kind);
+      settled = each_schedule_settles config events leads.history served.carried served.options leads.is_kind (calls_of leads.history (start_of config) old.disk now.disk leads.disk);
       serving = machine_serves config leads.history served.options;
       brief = events_brief config old.recorder.detail events leads.history (plain_of config served) leads.is_kind h.few;
     }
@@ -172,8 +175,8 @@ cut_report config detail history last said rest cut all =
 abbrev AreOfBoth : List Event → Event → World → List Happening → Type 0
 AreOfBoth events event w hs = (xs : List Happening) × (ys : List Happening) × (hs ≡ xs ++ ys) × AreOfAll events w xs × AreOfSoFar event (after xs w) ys
 
-both_told : (config : Options) (detail : Detail) (events : List Event) (event : Event) (hs : List Happening) → IsServed config → length events ≤ 10 ^ 9 → AreOfBoth events event (start_of config) hs → IsTold config detail hs
-both_told config detail events event hs served few k =
+both_told : (config : Options) (detail : Detail) (events : List Event) (event : Event) (hs : List Happening) → IsServed config → length events ≤ 10 ^ 9 → AreOfBoth events event (start_of config) hs → AreCalls hs (start_of config) → IsTold config detail hs
+both_told config detail events event hs served few k calls =
     let start = start_of config in
     let plain = plain_of config served in
     subst (IsTold config detail) (sym k.2) (record {
@@ -182,6 +185,7 @@ both_told config detail events event hs served few k =
       possible = rings_possible config (k.0 ++ k.1) served.carried served.options (events_so_far_possible events event start k.0 k.1 k.3 k.4);
       served = rings_served config (k.0 ++ k.1) served.carried served.options (events_so_far_possible events event start k.0 k.1 k.3 k.4);
       agreed = rings_agreed config (k.0 ++ k.1) served.carried served.options (events_so_far_possible events event start k.0 k.1 k.3 k.4);
+      settled = each_beginning_settles config events event k.0 k.1 served.carried served.options k.3 k.4 (subst (λ (xs : List Happening). AreCalls xs start) k.2 calls);
       serving = machine_serves config (k.0 ++ k.1) served.options;
       brief = events_so_far_brief config detail events event k.0 k.1 plain k.3 k.4 few;
     })
@@ -234,6 +238,11 @@ lacked_memory config events event why old began new history last long first both
       kept = λ fixed. content_kept config history old.disk new.disk fixed s.disk;
     }
 
+-- what lacked memory called no disk
+lacking_call : (w : World) (h : Happening) → NeedsMemory w h → IsCall w h
+lacking_call w (JobMoves number outcome) needs = absurd needs
+lacking_call w h needs = tt
+
 -- an event was stopped
 pub stopped_in_event : (config : Options) (events : List Event) (event : Event) (why : RecordStop) (old : Outside) (middle new : Moment) → HasLength old.disk.content config.sectors → HasCarried config events old middle → LeadsToStop (AreOfSoFar event middle.world) why middle new → HasLawfulBeginning config why (events ++ event ∷ []) old (outside new.disk new.recorder)
 stopped_in_event config events event why old middle new long h stopped = by_stop whole.stopped
@@ -244,8 +253,14 @@ stopped_in_event config events event why old middle new long h stopped = by_stop
     whole : LeadsToStop (AreOfBoth events event (start_of config)) why (moment (start_of config) old.disk h.began) new
     whole = stops_on (AreOfAll events start) (AreOfSoFar event middle.world) (AreOfBoth events event start) why (moment start old.disk h.began) middle new (λ xs ys k here f. (xs, ys, refl, k, subst (λ (w : World). AreOfSoFar event w ys) here f)) h.leads stopped
 
+    calls : StopsShowing whole.history whole.last why (moment (start_of config) old.disk h.began) new ⊎ LacksMemory whole.history whole.last why (moment (start_of config) old.disk h.began) new → AreCalls (whole.history ++ whole.last ∷ []) (start_of config)
+    calls (inl s) = calls_of (whole.history ++ whole.last ∷ []) (start_of config) old.disk new.disk s.disk
+    calls (inr s) =
+        calls_more whole.history whole.last (start_of config) (calls_of whole.history (start_of config) old.disk new.disk s.disk)
+        (lacking_call (after whole.history (start_of config)) whole.last s.needed)
+
     both : IsTold config old.recorder.detail (whole.history ++ whole.last ∷ [])
-    both = both_told config old.recorder.detail events event (whole.history ++ whole.last ∷ []) h.served h.few whole.is_kind
+    both = both_told config old.recorder.detail events event (whole.history ++ whole.last ∷ []) h.served h.few whole.is_kind (calls whole.stopped)
 
     jobs : submitted config (whole.history ++ whole.last ∷ []) ≡ jobs_of (events ++ event ∷ [])
     jobs = let k = whole.is_kind in ap (submitted config) k.2 ∙ events_so_far_submit events event start k.0 k.1 k.3 k.4

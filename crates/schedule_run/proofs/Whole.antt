@@ -51,6 +51,7 @@ told_first config detail first rest h = record {
   possible = possible_first first rest (rings.start_of config) h.possible;
   served = served_before first rest (rings.start_of config) h.served;
   agreed = of_rings.agreed_before first rest (rings.start_of config) h.agreed;
+  settled = of_rings.settled_first first rest h.settled;
   serving = of_rings.serving_before config first rest h.serving;
   brief = brief_first config detail first rest h.brief;
 }

@@ -1,4 +1,4 @@
--- The headline, over a report (`grant_table.h`, `io/ring.h`, `io/blkif.h`): the back touches only frames whose grant to it in that mode stood at the map, and serves nothing more until the next suspend once a producer index overran the ring; and without hostile lines the report is a run of the plain disk from the first image to the last, in which each request is answered at most once, and at each `quiet` line all are.
+-- The headline, over a report (`grant_table.h`, `io/ring.h`, `io/blkif.h`): the back touches only frames whose grant to it in that mode stood at the map, and serves nothing more until the next suspend once a producer index overran the ring; and without hostile lines the report is a run of the plain disk from the first image to the last, in which each request is answered at most once, and at each `quiet` line all are; and before the first hostile line each `settle` ends in quiet.
 use Rattle.std.specs.Prelude.{◌≡◌, ℕ, Bool, true, false, List, ◌∷◌, ◌++◌, Option, Ok, All}
 use Rattle.blk_base.specs.Options.{Options}
 use Rattle.blk_base.specs.declared.parts.Mode.{Mode}
@@ -14,10 +14,11 @@ use Rattle.report_rules.specs.Obeys.{Obeys}
 use Rattle.report_rules.specs.Standing.{is_epoch, is_unmap_of}
 use Rattle.report_rules.specs.Mapped.{map_verdict}
 use Rattle.report_rules.specs.Overrun.{IsOverrunAt}
-use Rattle.plain_disk.specs.Honest.{IsHonest}
+use Rattle.plain_disk.specs.Honest.{IsHonest, honest_part}
 use Rattle.pipeline_laws.specs.Run.{IsRun}
 use Rattle.pipeline_laws.specs.Effects.{IsOfADisk}
 use Rattle.pipeline_laws.specs.Answered.{AreAnsweredOnce, IsQuietAnswered}
+use Rattle.report_laws.specs.Settled.{IsSettled}
 use Rattle.schedule_run.specs.Lawful.{IsLawful}
 
 -- a mapping of this number and frame was made in this epoch and not unmapped since, for writing where that is asked; and at its map the words of its grant entry, as the lines before tell them, granted domain 0 that frame in that mode
@@ -45,6 +46,7 @@ pub record KeepsTheHeadline (config : Options) (detail : Detail) (before now : O
   pub disk : IsHonest report → IsOfADisk config.sectors before report → IsRun config.sectors before now report
   pub once : IsHonest report → IsOfADisk config.sectors before report → AreAnsweredOnce report
   pub quiet : IsHonest report → IsOfADisk config.sectors before report → IsQuietAnswered report
+  pub settled : IsSettled (honest_part report)
 
 -- so is each lawful report
 abbrev pub LawfulKeepsTheHeadline : Type 0

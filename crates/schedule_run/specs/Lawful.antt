@@ -40,6 +40,7 @@ use Rattle.pipeline_laws.specs.States.{AreStates}
 use Rattle.report_laws.specs.Begun.{IsBegun, IsBegunSoFar}
 use Rattle.report_laws.specs.Grammar.{IsInGrammar}
 use Rattle.report_laws.specs.Ready.{IsReadyFirst}
+use Rattle.report_laws.specs.Settled.{IsSettled}
 use Rattle.report_laws.specs.QuietRing.{IsQuietRing}
 use Rattle.report_laws.specs.States.{AreStatesAgreed}
 use Rattle.report_laws.specs.Ports.{AreFewPorts}
@@ -102,7 +103,7 @@ pub record ServesRequestsSoFar (jobs : List Submission) (before : Option (List (
   pub unbroken : IsUnbroken report
   pub states : AreStates report
 
--- a report begins with the options; its lines are lines of the grammar that its text gives back; a read-only disk holds what it held; each submission has the answer of the first rule that applies, as the lines before it say, also after a hostile line; and where it shows the moves, they obey the rules, the front makes at most 4 ports in an epoch, and each `halt`, each `broken`, each `answer` and each line of the front's state stands exactly where its cause does, whatever a hostile hand overwrites. A report that no hostile hand touched serves its requests as the plain disk does, from what the disk held to what it holds, where the disk tells that, or what the report shows of it are the calls of a disk. Of any other, the lines before the first hostile one do so, the front was connected before the first `quiet` line of them, and where moves are shown the ring is served and read at each of their `quiet` lines, and both ends have said that they are connected, or, after a `closing` line, that they are closed
+-- a report begins with the options; its lines are lines of the grammar that its text gives back; a read-only disk holds what it held; each submission has the answer of the first rule that applies, as the lines before it say, also after a hostile line; and where it shows the moves, they obey the rules, the front makes at most 4 ports in an epoch, and each `halt`, each `broken`, each `answer` and each line of the front's state stands exactly where its cause does, whatever a hostile hand overwrites. A report that no hostile hand touched serves its requests as the plain disk does, from what the disk held to what it holds, where the disk tells that, or what the report shows of it are the calls of a disk. Of any other, the lines before the first hostile one do so, the front was connected before the first `quiet` line of them, no `settle` ran out of rounds, and where moves are shown the ring is served and read at each of their `quiet` lines, and both ends have said that they are connected, or, after a `closing` line, that they are closed
 pub record IsLawful (config : Options) (detail : Detail) (jobs : List Submission) (before now : Option (List (List ℕ))) (report : List Line) : Type 0 where
   pub begun : IsBegun config detail report
   pub kept : config.read_only ≡ true → now ≡ before
@@ -111,6 +112,7 @@ pub record IsLawful (config : Options) (detail : Detail) (jobs : List Submission
   pub requests : IsHonest report → IsOfADisk config.sectors before report → ServesRequests config jobs before now report
   pub honest : IsOfADisk config.sectors before (honest_part report) → ServesRequestsSoFar jobs before (honest_part report)
   pub ready : IsReadyFirst (honest_part report)
+  pub settled : IsSettled (honest_part report)
   pub ring : detail ≡ Moves → IsQuietRing (honest_part report)
   pub agreed : detail ≡ Moves → AreStatesAgreed (honest_part report)
   pub ports : detail ≡ Moves → AreFewPorts report
@@ -125,6 +127,7 @@ pub record IsLawfulSoFar (config : Options) (detail : Detail) (jobs : List Submi
   pub refusals : AreRuled jobs report
   pub honest : IsOfADisk config.sectors before (honest_part report) → ServesRequestsSoFar jobs before (honest_part report)
   pub ready : IsReadyFirst (honest_part report)
+  pub settled : IsSettled (honest_part report)
   pub ring : detail ≡ Moves → IsQuietRing (honest_part report)
   pub agreed : detail ≡ Moves → AreStatesAgreed (honest_part report)
   pub ports : detail ≡ Moves → AreFewPorts report
