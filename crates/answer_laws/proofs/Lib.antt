@@ -1,0 +1,12 @@
+pub mod Below
+pub mod Places
+pub mod Kept
+pub mod Served
+pub mod Changed
+pub mod Stepping
+pub mod Answering
+pub mod Refused
+pub mod Totals
+pub mod Asked
+pub mod Echoing
+pub mod Counted

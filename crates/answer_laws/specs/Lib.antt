@@ -1,0 +1,3 @@
+pub mod Okay
+pub mod Counts
+pub mod Wrong
