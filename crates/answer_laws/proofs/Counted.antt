@@ -1,5 +1,5 @@
 -- The counts of a report that settles last, and never runs out of rounds.
-use Rattle.std.proofs.Common.{◌≡◌, ◌≢◌, ℕ, ◌+◌, ◌-◌, ◌≤◌, ◌^◌, min, Bool, true, false, cond, List, [], ◌∷◌, ◌++◌, refl, ap, sym, ◌∙◌, subst, arith}
+use Rattle.std.proofs.Common.{◌≡◌, ℕ, ◌+◌, ◌-◌, ◌≤◌, ◌^◌, min, Bool, true, false, true≢false, cond, List, [], ◌∷◌, ◌++◌, refl, ap, sym, ◌∙◌, subst, arith}
 use Rattle.std.specs.Prelude.{Some, fold, count_by}
 use Rattle.std.specs.List.{AllByRecursion}
 use Rattle.std.proofs.lemmas.List.Elements.{recursion_from_All}
@@ -15,7 +15,8 @@ use Rattle.schedule_text.specs.declared.recorder.RoundsEnd.TheVariants as verdic
 use Rattle.schedule_text.specs.Recorder.{one_more, counted}
 use Rattle.plain_disk.specs.Echo.{AnswersSettle, Echoes}
 use Rattle.pipeline_laws.specs.Answered.{AreAnsweredOnce, IsQuietAnswered}
-use Rattle.answer_laws.specs.Counts.{is_submission, is_answer, submissions_in, answers_in, no_counts, counts_of, IsNeverUnsettled, AreAllAnswered}
+use Rattle.report_laws.specs.Settled.{is_unsettled, IsSettled}
+use Rattle.answer_laws.specs.Counts.{is_submission, is_answer, submissions_in, answers_in, no_counts, tally_of, AreAllAnswered}
 use Rattle.answer_laws.proofs.Asked.{quiet_agrees}
 use Rattle.answer_laws.proofs.Echoing.{settles_last}
 
@@ -41,7 +42,7 @@ answered_step : Counts (λ t. t.answered) is_answer
 answered_step t (lines.Answer id status) = refl
 answered_step t line = refl
 
-counted_alike : (report : List Line) → answers_in report ≡ submissions_in report → (counts_of report).answered ≡ (counts_of report).submitted
+counted_alike : (report : List Line) → answers_in report ≡ submissions_in report → (tally_of report).answered ≡ (tally_of report).submitted
 counted_alike report same =
     counts_on (λ t. t.answered) is_answer answered_step no_counts report (omega arith)
     ∙ (ap (λ (n : ℕ). min (0 + n) (2 ^ 64 - 1)) same
@@ -49,33 +50,33 @@ counted_alike report same =
 
 -- the last word stays `quiet`
 abbrev IsNotUnsettled : Line → Type 0
-IsNotUnsettled line = line ≢ lines.Unsettled
+IsNotUnsettled line = is_unsettled line ≡ false
 
 stays_quiet : (t : Tally) (ls : List Line) → AllByRecursion IsNotUnsettled ls → t.last ≡ Some verdict.Quiet → (fold counted t ls).last ≡ Some verdict.Quiet
 stays_quiet t [] all is = is
 stays_quiet t (lines.Quiet ∷ ls) all is = stays_quiet (counted t lines.Quiet) ls all.1 refl
-stays_quiet t (lines.Unsettled ∷ ls) all is = absurd (all.0 refl)
+stays_quiet t (lines.Unsettled ∷ ls) all is = absurd (true≢false all.0)
 stays_quiet t (line ∷ ls) all is = stays_quiet (counted t line) ls all.1 is
 
 all_later : (first rest : List Line) → AllByRecursion IsNotUnsettled (first ++ rest) → AllByRecursion IsNotUnsettled rest
 all_later [] rest all = all
 all_later (line ∷ first) rest all = all_later first rest all.1
 
-quiet_last : (before rest : List Line) → AllByRecursion IsNotUnsettled (before ++ lines.Quiet ∷ rest) → (counts_of (before ++ lines.Quiet ∷ rest)).last ≡ Some verdict.Quiet
+quiet_last : (before rest : List Line) → AllByRecursion IsNotUnsettled (before ++ lines.Quiet ∷ rest) → (tally_of (before ++ lines.Quiet ∷ rest)).last ≡ Some verdict.Quiet
 quiet_last before rest all =
     ap (λ (t : Tally). t.last) (fold-append counted no_counts before (lines.Quiet ∷ rest))
     ∙ stays_quiet (counted (fold counted no_counts before) lines.Quiet) rest (let later = all_later before (lines.Quiet ∷ rest) all in later.1) refl
 
-all_answered : (before rest : List Line) (last : Line) → AnswersSettle last → submissions_in rest ≡ 0 → AreAnsweredOnce (before ++ last ∷ rest) → IsQuietAnswered (before ++ last ∷ rest) → AllByRecursion IsNotUnsettled (before ++ last ∷ rest) → AreAllAnswered (counts_of (before ++ last ∷ rest))
+all_answered : (before rest : List Line) (last : Line) → AnswersSettle last → submissions_in rest ≡ 0 → AreAnsweredOnce (before ++ last ∷ rest) → IsQuietAnswered (before ++ last ∷ rest) → AllByRecursion IsNotUnsettled (before ++ last ∷ rest) → AreAllAnswered (tally_of (before ++ last ∷ rest))
 all_answered before rest lines.Quiet settles none once quiet all = record {
   answered = counted_alike (before ++ lines.Quiet ∷ rest) (quiet_agrees before rest once quiet none);
   last = quiet_last before rest all;
 }
-all_answered before rest lines.Unsettled settles none once quiet all = absurd ((all_later before (lines.Unsettled ∷ rest) all).0 refl)
+all_answered before rest lines.Unsettled settles none once quiet all = absurd (true≢false (all_later before (lines.Unsettled ∷ rest) all).0)
 all_answered before rest line settles none once quiet all = absurd settles
 
-pub settled_counts : (options : Options) (detail : Detail) (events : List Event) (report : List Line) → Echoes options detail (events ++ Settle ∷ []) report → AreAnsweredOnce report → IsQuietAnswered report → IsNeverUnsettled report → AreAllAnswered (counts_of report)
+pub settled_counts : (options : Options) (detail : Detail) (events : List Event) (report : List Line) → Echoes options detail (events ++ Settle ∷ []) report → AreAnsweredOnce report → IsQuietAnswered report → IsSettled report → AreAllAnswered (tally_of report)
 settled_counts options detail events report echo once quiet never =
     let h = settles_last options detail events report echo in
-    subst (λ (r : List Line). AreAllAnswered (counts_of r)) (sym h.split)
+    subst (λ (r : List Line). AreAllAnswered (tally_of r)) (sym h.split)
     (all_answered h.before h.rest h.last h.settles h.none (subst AreAnsweredOnce h.split once) (subst (λ (r : List Line). IsQuietAnswered r) h.split quiet) (subst (AllByRecursion IsNotUnsettled) h.split (recursion_from_All IsNotUnsettled report never)))

@@ -10,3 +10,4 @@ pub mod Totals
 pub mod Asked
 pub mod Echoing
 pub mod Counted
+pub mod Honest

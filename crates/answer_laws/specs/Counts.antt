@@ -1,5 +1,5 @@
 -- Where settling ended in `quiet`, a report has as many answers as submissions, and so have the counts of it.
-use Rattle.std.specs.Prelude.{◌≡◌, ◌≢◌, ℕ, Bool, true, false, List, fold, count_by, All, Some, None}
+use Rattle.std.specs.Prelude.{◌≡◌, ℕ, Bool, true, false, List, fold, count_by, Some, None}
 use Rattle.schedule_text.specs.declared.line.Line.{Line}
 use Rattle.schedule_text.specs.declared.line.Line.TheVariants as lines
 use Rattle.schedule_text.specs.declared.recorder.Tally.{Tally}
@@ -25,15 +25,11 @@ answers_in report = count_by is_answer report
 abbrev pub no_counts : Tally
 no_counts = record { submitted = 0; refused = 0; effects = 0; answered = 0; last = None }
 
--- the counts of a report
-abbrev pub counts_of : List Line → Tally
-counts_of report = fold counted no_counts report
+-- the tally of a report
+abbrev pub tally_of : List Line → Tally
+tally_of report = fold counted no_counts report
 
--- no line says that rounds ran out
-abbrev pub IsNeverUnsettled : List Line → Type 0
-IsNeverUnsettled report = All (λ (line : Line). line ≢ lines.Unsettled) report
-
--- counts that say that all is answered
+-- a tally that says that all is answered
 pub record AreAllAnswered (tally : Tally) : Type 0 where
   pub answered : tally.answered ≡ tally.submitted
   pub last : tally.last ≡ Some verdict.Quiet

@@ -1,3 +1,4 @@
 pub mod Okay
+pub mod Honest
 pub mod Counts
 pub mod Wrong

@@ -5,6 +5,7 @@
 #![tactic(auto)]
 
 ghost use Rattle.std.specs.Prelude.{◌≡◌, ℕ, List, [], ◌∷◌, ◌++◌, Some};
+ghost use Rattle.std.specs.List.{list_all};
 ghost use Rattle.schedule_text.specs.declared.event.Event.{Event};
 ghost use Rattle.schedule_text.specs.declared.event.Event.TheVariants.{Settle};
 ghost use Rattle.schedule_text.specs.declared.line.Detail.{Detail};
@@ -14,9 +15,12 @@ ghost use Rattle.blk_base.specs.Options.{Options};
 ghost use Rattle.plain_disk.specs.Disk.{Disk, disk_of};
 ghost use Rattle.plain_disk.specs.Step.{after};
 ghost use Rattle.plain_disk.specs.Echo.{Echoes};
+ghost use Rattle.plain_disk.specs.Honest.{is_honest};
 ghost use Rattle.pipeline_laws.specs.Answered.{AreAnsweredOnce, IsQuietAnswered};
+ghost use Rattle.report_laws.specs.Settled.{IsSettled};
+ghost use Rattle.answer_laws.specs.Honest.{is_honest_schedule};
 ghost use Rattle.answer_laws.specs.Okay.{AreAnsweredByFaults};
-ghost use Rattle.answer_laws.specs.Counts.{submissions_in, answers_in, counts_of, IsNeverUnsettled, AreAllAnswered};
+ghost use Rattle.answer_laws.specs.Counts.{submissions_in, answers_in, tally_of, AreAllAnswered};
 ghost use Rattle.answer_laws.specs.Wrong.{failed_alone, failed_at_another, okay_after_fault, failed_before, unsupported};
 
 /// A reply, and the answer that the front takes, is `error` where a `fault` line of its request stands
@@ -36,7 +40,12 @@ pub fn a_quiet_report_has_an_answer_for_each_submission()
 /// So have its counts, where it echoes a schedule that ends with `settle`, and no line says `unsettled`:
 /// and the last word is `quiet`.
 pub fn a_settled_schedule_is_counted_as_answered()
-    ensures { (options : Options) (detail : Detail) (events : List Event) (report : List Line) → Echoes options detail (events ++ Settle ∷ []) report → AreAnsweredOnce report → IsQuietAnswered report → IsNeverUnsettled report → AreAllAnswered (counts_of report) }
+    ensures { (options : Options) (detail : Detail) (events : List Event) (report : List Line) → Echoes options detail (events ++ Settle ∷ []) report → AreAnsweredOnce report → IsQuietAnswered report → IsSettled report → AreAllAnswered (tally_of report) }
+{}
+
+/// A report is honest exactly where the schedule that it echoes has no hostile line.
+pub fn a_report_is_as_honest_as_its_schedule()
+    ensures { (options : Options) (detail : Detail) (schedule : List Event) (report : List Line) → Echoes options detail schedule report → list_all is_honest report ≡ is_honest_schedule schedule }
 {}
 
 /// The rule refuses `error` where the disk didn't fail, or failed at another request or in the epoch before,

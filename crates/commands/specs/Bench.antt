@@ -1,5 +1,5 @@
 -- What the command `bench` leaves and says: the counts of a lawful report of exactly the generated schedule, run on 4096 sectors of zeros in memory.
-use Rattle.std.specs.Prelude.{◌≡◌, ℕ, ◌⊎◌, List, Option, Some, None, Result, Ok, Err, replicate, fold}
+use Rattle.std.specs.Prelude.{◌≡◌, ℕ, ◌⊎◌, List, Option, Some, Result, Ok, Err, replicate}
 use Rattle.blk_io.specs.Outside.{SinkSeen, TakesBytes, FailsWriting, FailsHandingOn}
 use Rattle.blk_io.specs.Disk.{attached_of, zero_sector}
 use Rattle.image_disk.specs.Image.{Image, image_seen}
@@ -7,8 +7,8 @@ use Rattle.schedule_text.specs.declared.event.Event.{Event}
 use Rattle.schedule_text.specs.declared.line.Detail.TheVariants.{Lines}
 use Rattle.schedule_text.specs.declared.line.Line.{Line}
 use Rattle.schedule_text.specs.declared.recorder.Tally.{Tally}
-use Rattle.schedule_text.specs.Recorder.{counted}
 use Rattle.plain_disk.specs.Echo.{Echoes}
+use Rattle.answer_laws.specs.Counts.{tally_of, AreAllAnswered}
 use Rattle.machine_pipeline.specs.Submissions.{jobs_of}
 use Rattle.schedule_run.specs.Lawful.{IsLawful}
 use Rattle.bench_load.specs.Generated.{schedule_of}
@@ -26,16 +26,14 @@ pub record IsZeroDisk (disk : Image) : Type 0 where
   pub attached : attached_of (image_seen disk) ≡ Some 4096
   pub content : disk.content ≡ zeros
 
-abbrev pub no_counts : Tally
-no_counts = record { submitted = 0; refused = 0; effects = 0; answered = 0; last = None }
-
--- the counts of a report that echoes the schedule, on the options of a run without others, and is lawful: a run of the plain disk over zeros, and more
+-- the counts of a report that echoes the schedule, on the options of a run without others, and is lawful: a run of the plain disk over zeros, and more; as many requests were answered as were submitted, and the last word is `quiet`
 pub record IsTallyOf (schedule : List Event) (tally : Tally) : Type 0 where
   pub report : List Line
   pub left : Option (List (List ℕ))
   pub echo : Echoes (options_of no_options 4096) Lines schedule report
   pub lawful : IsLawful (options_of no_options 4096) Lines (jobs_of schedule) (Some zeros) left report
-  pub counts : tally ≡ fold counted no_counts report
+  pub counts : tally ≡ tally_of report
+  pub all_answered : AreAllAnswered tally
 
 -- there is that tally, or no memory
 abbrev pub Tallies : ℕ → ℕ → Result Tally Stop → Type 0

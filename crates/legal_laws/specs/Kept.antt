@@ -1,8 +1,7 @@
 -- What a run promises of its requests, and the rules on them (`io/blkif.h`, `io/xenbus.h`).
-use Rattle.std.specs.Prelude.{◌≡◌, ℕ, Bool, true, false, List, Option, Some, All}
+use Rattle.std.specs.Prelude.{◌≡◌, ℕ, List, Option, Some, All}
 use Rattle.blk_base.specs.declared.config.Submission.{Submission}
 use Rattle.schedule_text.specs.declared.line.Line.{Line}
-use Rattle.schedule_text.specs.declared.line.Line.TheVariants as lines
 use Rattle.plain_disk.specs.Disk.{Disk, disk_of}
 use Rattle.plain_disk.specs.Step.{after}
 use Rattle.report_rules.specs.Obeys.{Obeys}

@@ -1,5 +1,5 @@
 -- What is left to the machine of the ring is within what the front's unfinished requests tell, but for what isn't seen once the back has halted.
-use Rattle.std.proofs.Common.{◌≡◌, ℕ, ◌+◌, ◌-◌, ◌*◌, ◌≤◌, inl, inr, Bool, cond, List, length, refl, ap, arith}
+use Rattle.std.proofs.Common.{◌≡◌, ℕ, ◌+◌, ◌*◌, ◌≤◌, inl, inr, Bool, cond, List, length, refl, ap, arith}
 use Rattle.std.specs.Prelude.{is_some, sum_by}
 use Rattle.blk_base.specs.Options.{Options}
 use Rattle.blk_base.specs.declared.parts.Mapping.{Mapping}

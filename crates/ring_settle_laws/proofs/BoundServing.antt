@@ -1,7 +1,6 @@
 -- While the ends serve requests, what is left to the machine of the ring is within what the front's unfinished requests tell.
 use Rattle.std.proofs.Common.{◌≡◌, ℕ, ◌+◌, ◌-◌, ◌*◌, ◌^◌, ◌≤◌, ◌==◌, if◌then◌else◌, Bool, true, false, cond, List, length, ap, arith}
 use Rattle.std.specs.Prelude.{Option, Some, slice_get, sum_by}
-use Rattle.std.specs.List.{range_with_len}
 use Rattle.std.proofs.lemmas.List.FromFn.{length-range_with_len}
 use Rattle.blk_base.specs.Distance.{distance_of}
 use Rattle.blk_base.specs.Options.{Options}

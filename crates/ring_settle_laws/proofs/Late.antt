@@ -1,8 +1,7 @@
 -- Once the back has halted no end looks for anything, so what isn't seen then stays unseen: it costs no move.
-use Rattle.std.proofs.Common.{◌≡◌, ℕ, ◌+◌, ◌*◌, ◌≤◌, List, length, inl, inr, Bool, cond, true, false, true≢false, refl, ap, sym, ◌∙◌, subst, arith, if◌then◌else◌}
+use Rattle.std.proofs.Common.{◌≡◌, ℕ, ◌+◌, ◌*◌, ◌≤◌, List, length, inl, inr, Bool, cond, true, true≢false, refl, ap, sym, ◌∙◌, subst, arith}
 use Rattle.std.specs.Prelude.{Option, Some, None, is_some, nat_le, ◌&&◌}
-use Rattle.std.proofs.lemmas.Bool.{and_parts, cond_both}
-use Rattle.std.proofs.lemmas.Option.{none-some}
+use Rattle.std.proofs.lemmas.Bool.{and_parts}
 use Rattle.blk_base.specs.Options.{Options}
 use Rattle.blk_base.specs.declared.parts.Mapping.{Mapping}
 use Rattle.blk_base.specs.declared.ask.BackAsk.TheVariants as back_ask
@@ -18,7 +17,6 @@ use Rattle.blk_front.specs.declared.stage.FrontStage.TheVariants as front_stage
 use Rattle.blk_front.specs.declared.state.FrontState.{FrontState}
 use Rattle.blk_front.specs.declared.state.FrontState.TheVariants as state
 use Rattle.blk_front.specs.State.{is_unmade, may_enter, in_state}
-use Rattle.blk_front.specs.Submit.{is_connected}
 use Rattle.blk_front.specs.View as front
 use Rattle.blk_back.specs.declared.stage.BackStage.{BackStage}
 use Rattle.blk_back.specs.declared.stage.BackStage.TheVariants as back_stage
@@ -26,12 +24,11 @@ use Rattle.blk_back.specs.View as back
 use Rattle.blk_back.specs.Step as back_step
 use Rattle.pipeline_laws.specs.Pipeline.{Pipeline}
 use Rattle.split_model.specs.World.{World}
-use Rattle.split_model.specs.Happening.{Happening, FrontMoves, BackMoves, JobMoves, Negotiates, FrontEnters, BackAttaches, BackHalts, front_turn, back_turn, job_turn, front_after, back_after, job_after, attaches_at, happens}
+use Rattle.split_model.specs.Happening.{Happening, FrontMoves, BackMoves, JobMoves, Negotiates, FrontEnters, BackAttaches, BackHalts, front_turn, back_turn, job_turn, front_after, back_after, job_after, happens}
 use Rattle.split_model.proofs.Attaching.{attach_cases}
 use Rattle.split_model.proofs.Shapes.{attaches_waiting}
 use Rattle.split_model.proofs.States.{is_unbound, enters_cases, halts_cases}
 use Rattle.machine_pipeline.specs.Allowed.{IsServed, MayEnter}
-use Rattle.machine_pipeline.proofs.Holds.{Holds}
 use Rattle.machine_pipeline.proofs.Over.{Over, IsKept, IsAborting, IsLeaving}
 use Rattle.ring_settle_laws.specs.Left.{front_saw, back_saw, unseen_left}
 use Rattle.ring_settle_laws.proofs.Stations.{IsEndsMove}

@@ -25,7 +25,7 @@ use Rattle.blk_base.specs.Options.{Options}
 use Rattle.split_model.specs.World.{World}
 use Rattle.split_model.specs.Happening.{Happening, BackMoves, lines_at}
 use Rattle.ring_settle_laws.proofs.Gone.{Gone}
-use Rattle.ring_settle_laws.specs.Stations.{station_left, request_left, requests_left, reply_price}
+use Rattle.ring_settle_laws.specs.Stations.{station_left, request_left, requests_left, reply_price, is_anew}
 use Rattle.ring_settle_laws.proofs.PricesShown.{is_epoch, HasNoEpoch, shown_of_epoch, asks_nothing, asides_no_reply, aside_no_reply}
 pub use Rattle.ring_settle_laws.proofs.PricesShown.{IsEndsMove, is_reply}
 
@@ -104,12 +104,6 @@ move_lowers submission (Replies status) = omega arith
 move_lowers submission (Takes status) = omega arith
 move_lowers submission (Answers status) = omega (arith, answered_left (is_read submission && is_okay status) submission status)
 move_lowers submission (Tells index words) = omega (arith, told_left (nat_lt (index + 1) (places_of submission)) submission (index + 1))
-
--- a step that has no request wait anew: it neither submits one nor resumes the domain
-abbrev pub is_anew : Step → Bool
-is_anew (Submits submission) = true
-is_anew Resumes = true
-is_anew s = false
 
 move_falls : (d : Pipeline) (k : ℕ) (x : PipelineRequest) (move : Move) → IsAllowed d (Moves k x move) → Lowers d.requests (slice_set d.requests k (moved x move))
 move_falls d k x move allowed = record {
@@ -209,3 +203,9 @@ reply_lowers config w d gone shows =
     replies_fall gone.steps d (none_anew refl (shown_of_epoch w BackMoves tt) does) does.allowed
     (subst (λ (b : Bool). (b || list_any is_reply (lines_of gone.steps d)) ≡ true) (asides_no_reply does.asides does.aside)
     (sym (list_any-append is_reply does.asides (lines_of gone.steps d)) ∙ (sym (ap (list_any is_reply) does.shows) ∙ shows)))
+
+-- so what is left to the requests doesn't rise
+pub requests_never_rise : (steps : List Step) (d : Pipeline) → list_any is_anew steps ≡ false → AreAllowed steps d → (let p : Pipeline = after_steps steps d in requests_left p.requests ≤ requests_left d.requests)
+requests_never_rise steps d old allowed =
+    let p : Pipeline = after_steps steps d in
+    requests_fall d.requests p.requests (never_earlier steps d old allowed)

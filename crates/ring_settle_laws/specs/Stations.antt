@@ -1,9 +1,10 @@
 -- What a request will cost the back and the marks of events, by its station: its job, and what its push and its reply show and send.
-use Rattle.std.specs.Prelude.{ℕ, ◌+◌, List, sum_by}
+use Rattle.std.specs.Prelude.{ℕ, ◌+◌, Bool, true, false, List, sum_by}
 use Rattle.blk_base.specs.declared.config.Submission.{Submission}
 use Rattle.blk_base.specs.declared.config.Submission.TheVariants.{Read, Write, Barrier}
 use Rattle.blk_front.specs.Request.{frames_for}
 use Rattle.back_laws.specs.JobLeft.{begun_left}
+use Rattle.pipeline_laws.specs.Pipeline.{Step, Submits, Resumes}
 use Rattle.pipeline_laws.specs.Station.{Station, Waiting, Issuing, Pushed, Fetching, Working, Failed, Ended, Replying, PipelineRequest}
 
 -- the sectors that go between frames and the disk
@@ -41,3 +42,9 @@ request_left x = station_left x.submission x.station
 
 abbrev pub requests_left : List PipelineRequest → ℕ
 requests_left requests = sum_by request_left requests
+
+-- a step that has a request wait anew: it submits one, or resumes the domain
+abbrev pub is_anew : Step → Bool
+is_anew (Submits submission) = true
+is_anew Resumes = true
+is_anew s = false

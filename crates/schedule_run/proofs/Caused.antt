@@ -1,5 +1,5 @@
 -- What a report shows of both ends stands where its cause does, also in the beginning of a report.
-use Rattle.std.proofs.Common.{◌≡◌, ℕ, ◌≤◌, List, [], ◌++◌}
+use Rattle.std.proofs.Common.{◌≡◌, ◌≤◌, List, [], ◌++◌}
 use Rattle.blk_base.specs.Options.{Options}
 use Rattle.schedule_text.specs.Range.{AreOptions}
 use Rattle.schedule_text.specs.Recorder.{kept_of}

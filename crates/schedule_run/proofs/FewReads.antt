@@ -1,18 +1,16 @@
 -- How many words the back reads, and how many requests it fetches and mappings there are, at most.
-use Rattle.std.proofs.Common.{◌≡◌, ℕ, zero, suc, Bool, true, false, if◌then◌else◌, refl, ap, ◌∙◌, ◌+◌, ◌*◌, ◌^◌, ◌<◌, ◌≤◌, List, [], ◌∷◌, ◌++◌, length, Option, Some, None, arith, length-append}
-use Rattle.std.specs.Prelude.{◌/◌, ◌%◌, map, sum_by, Result, Ok, Err}
+use Rattle.std.proofs.Common.{◌≡◌, ℕ, Bool, true, false, if◌then◌else◌, refl, ap, ◌∙◌, ◌+◌, ◌*◌, ◌^◌, ◌<◌, ◌≤◌, List, [], ◌∷◌, ◌++◌, length, Option, Some, None, arith, length-append}
+use Rattle.std.specs.Prelude.{map, sum_by}
 use Rattle.std.proofs.lemmas.List.{length-map}
 use Rattle.std.proofs.lemmas.List.Sums.{sum_by-cons, sum_by-append}
-use Rattle.xen_pages.specs.Pages.{word_of}
 use Rattle.blk_base.specs.Options.{Options}
 use Rattle.blk_base.specs.declared.parts.End.{End}
 use Rattle.blk_base.specs.declared.ask.BackAnswer.{BackAnswer}
 use Rattle.schedule_text.specs.declared.event.Event.{Event}
 use Rattle.schedule_text.specs.declared.line.Line.{Line}
-use Rattle.schedule_text.specs.declared.line.Line.TheVariants.{Begin, Move, Poke, Key, Epoch}
+use Rattle.schedule_text.specs.declared.line.Line.TheVariants.{Begin, Move}
 use Rattle.schedule_text.specs.declared.line.Detail.{Detail}
-use Rattle.key_directory.specs.Directory.{Directory}
-use Rattle.hypervisor.specs.Act.{FrontAct, BackAct, Outcome, Took, Gave, Failed, back_act, map_act, bind_act, disk_act}
+use Rattle.hypervisor.specs.Act.{FrontAct, BackAct, Outcome, Took, back_act}
 use Rattle.blk_front.specs.declared.told.Told.{Told}
 use Rattle.blk_front.specs.declared.told.Told.TheVariants as front_told
 use Rattle.blk_front.specs.View as front
@@ -24,18 +22,13 @@ use Rattle.blk_back.specs.View as back
 use Rattle.blk_back.specs.Step as back_step
 use Rattle.split_model.specs.World as rings
 use Rattle.vbd_model.specs.World.{World, start_of, frontend_of, backend_of}
-use Rattle.split_model.specs.Shown.{front_lines, back_lines, halt_lines, state_lines}
+use Rattle.split_model.specs.Shown.{front_lines, back_lines, halt_lines}
 use Rattle.split_model.specs.Happening.{is_guest_word, word_lines, ring_lines, enter_lines, front_shows, back_shows, job_shows, front_turn, back_turn, job_turn, is_guest_key}
 use Rattle.split_model.specs.Happening as ring
 use Rattle.vbd_model.specs.Happening.{Happening, FrontMoves, BackMoves, JobMoves, Closes, does, front_key, back_key, entered_at, reasons_of, halted_at, front_enters, back_halts, back_negotiates, back_bus_after, attaches, closes_does, is_fronts_ring, is_backs_ring, happens, after, all_does}
-use Rattle.blk_back.specs.declared.stage.BackStage.{BackStage}
-use Rattle.split_model.specs.Keys.{KeyMove, negotiated_lines}
 use Rattle.vbd_model.specs.Kind.{AreOfAll, AreOfSoFar}
-use Rattle.split_model.proofs.Keys.{key_cases, negotiated_cases}
-use Rattle.split_model.proofs.States.{enters_cases}
 use Rattle.blk_base.specs.declared.parts.End.TheVariants as end
 use Rattle.blk_front.specs.declared.state.FrontState.{FrontState}
-use Rattle.blk_front.specs.declared.state.FrontState.TheVariants as state
 use Rattle.blk_front.specs.declared.state.Offers.{Offers}
 use Rattle.xenbus_state.specs.declared.front.FrontNews.{FrontNews}
 use Rattle.xenbus_state.specs.declared.table.BackHalt.{BackHalt}
@@ -51,19 +44,10 @@ use Rattle.vbd_back.specs.Step as backend_step
 use Rattle.vbd_model.specs.Happening as vbd_happening
 use Rattle.machine_pipeline.specs.Plain.{IsPlain}
 use Rattle.schedule_run.proofs.Counts.{others_at, others_of, most_others, event_so_far_few, events_few}
-use Rattle.std.proofs.lemmas.Option.{none-some}
-use Rattle.blk_base.specs.declared.parts.Mode.{Mode}
 use Rattle.blk_base.specs.declared.ask.BackAsk.{BackAsk}
-use Rattle.blk_base.specs.declared.ask.BackAsk.TheVariants as back_ask
 use Rattle.blk_base.specs.declared.ask.BackAnswer.TheVariants as back_answer
 use Rattle.blk_base.specs.declared.moves.BackMover.TheVariants as back_mover
-use Rattle.blk_base.specs.declared.moves.Move.{Move as Shown}
 use Rattle.hypervisor.specs.Hypervisor.{Hypervisor}
-use Rattle.grant_table.specs.declared.entry.MapRefusal.{MapRefusal}
-use Rattle.grant_table.specs.Table.{verdict_at}
-use Rattle.event_channel.specs.Channels.{state_of}
-use Rattle.event_channel.specs.declared.channels.PortState.{PortState}
-use Rattle.event_channel.specs.declared.channels.PortState.TheVariants as port
 use Rattle.split_model.specs.Report as ring_report
 use Rattle.split_model.proofs.Running as ring_running
 use Rattle.split_model.proofs.Acting.{BackRead, back_acts}

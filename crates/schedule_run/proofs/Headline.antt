@@ -1,6 +1,6 @@
 -- A lawful report keeps the headline: a mapping that stands was made by a line that the grant's entry allowed.
-use Rattle.std.proofs.Common.{◌≡◌, ℕ, ◌==◌, Bool, true, false, ◌||◌, List, [], ◌∷◌, ◌++◌, Option, Some, None, refl, ap, sym, ◌∙◌, subst, append_assoc, arith}
-use Rattle.std.specs.Prelude.{reverse, find, if◌then◌else◌, IfSome, IsSomeAnd, All, Ok}
+use Rattle.std.proofs.Common.{◌≡◌, ℕ, ◌==◌, Bool, true, false, ◌||◌, List, [], ◌∷◌, ◌++◌, Option, Some, None, refl, ap, sym, ◌∙◌, subst, append_assoc}
+use Rattle.std.specs.Prelude.{find, if◌then◌else◌, IsSomeAnd}
 use Rattle.std.specs.List.{AllByRecursion, list_any, cons_option}
 use Rattle.std.proofs.lemmas.List.{append-nil}
 use Rattle.std.proofs.lemmas.List.Elements.{All-from_recursion}
@@ -14,8 +14,8 @@ use Rattle.schedule_text.specs.declared.line.Line.{Line}
 use Rattle.schedule_text.specs.declared.line.Line.TheVariants as lines
 use Rattle.report_rules.specs.declared.standing.Standing.{Standing}
 use Rattle.report_rules.specs.Obeys.{Obeys}
-use Rattle.report_rules.specs.Standing.{is_epoch, is_unmap_of, this_epoch, mapping_made, unless_unmapped, left_of, standing_after, numbered}
-use Rattle.report_rules.specs.Mapped.{map_verdict, IsMapAnswerAt, AreMapAnswers}
+use Rattle.report_rules.specs.Standing.{is_epoch, is_unmap_of, this_epoch, left_of, standing_after, numbered}
+use Rattle.report_rules.specs.Mapped.{IsMapAnswerAt, AreMapAnswers}
 use Rattle.report_rules.specs.Touch.{IsTouchAt, AreTouches}
 use Rattle.report_rules.proofs.Obeys.{obeys_before}
 use Rattle.report_rules.proofs.Back.{epoch_more}

@@ -1,6 +1,6 @@
 -- What the disk holds where a run was stopped: what the lines that were told whole leave, or one call of the disk more.
 use Rattle.std.proofs.Common.{◌≡◌, ℕ, zero, suc, ◌+◌, ◌≤◌, inl, inr, length, Bool, true, false, cond, List, [], ◌∷◌, ◌++◌, Option, Some, None, refl, ap, sym, ◌∙◌, subst, append_assoc, append-nil, length-append, arith}
-use Rattle.std.specs.Prelude.{◌⊎◌, ◌&&◌, filter, map, if◌then◌else◌}
+use Rattle.std.specs.Prelude.{◌&&◌, filter, map, if◌then◌else◌}
 use Rattle.std.specs.List.{AllByRecursion, list_all}
 use Rattle.std.proofs.lemmas.List.Elements.{filter-append}
 use Rattle.blk_base.specs.Options.{Options}

@@ -31,13 +31,15 @@ use Rattle.split_model.specs.Happening.{Happening, Pokes, OverwritesKey, DiskRun
 use Rattle.split_model.specs.Honest.{honest_history}
 use Rattle.schedule_text.specs.Recorder.{kept_of, line_bytes, report_text}
 use Rattle.split_model.specs.Report.{report_of, ended_report_of}
-use Rattle.split_model.proofs.Running.{lines_of-append, kept_of-append}
+use Rattle.split_model.proofs.Running.{kept_of-append}
 use Rattle.machine_pipeline.specs.Plain.{IsPlain}
 use Rattle.machine_pipeline.specs.Allowed.{AreServed, ArePossible}
 use Rattle.machine_pipeline.specs.Submissions.{submitted_at, submitted_of}
 use Rattle.machine_pipeline.proofs.HonestPart.{HostileAfter, HonestWith, HonestEnded, honest_with, honest_kept, honest_report, honest_ended, served_before, disk_runs_first, disk_part, submitted_part, kept_after, not_honest, CutOrWhole, cut_or_whole}
 use Rattle.pipeline_laws.specs.Submissions.{IsAnswerAt}
 use Rattle.pipeline_laws.specs.Unbroken.{is_breach}
+use Rattle.answer_laws.specs.Okay.{AreAnsweredByFaults}
+use Rattle.answer_laws.proofs.Answering.{run_answers_by_faults}
 use Rattle.pipeline_laws.specs.States.{IsStateAt}
 use Rattle.disk_laws.proofs.Reports.{reports_run, ended_reports_run}
 use Rattle.pipeline_laws.specs.Submissions.{submitted_of as steps_submit}
@@ -162,6 +164,9 @@ moves_before order report more h = record {
 once_of : (sectors : ℕ) (before now : Option (List (List ℕ))) (report : List Line) → IsRun sectors before now report → AreAnsweredOnce report
 once_of sectors before now report h = run_answers_once report h.first h.disk h.run
 
+statuses_of : (sectors : ℕ) (before now : Option (List (List ℕ))) (report : List Line) → IsRun sectors before now report → AreAnsweredByFaults report
+statuses_of sectors before now report h = run_answers_by_faults report h.first h.disk h.run
+
 quiet_of : (sectors : ℕ) (before now : Option (List (List ℕ))) (report : List Line) → IsRun sectors before now report → IsQuietAnswered report
 quiet_of sectors before now report h = run_answers_at_quiet report h.first h.disk h.run
 
@@ -219,12 +224,16 @@ pub serving_before : (config : Options) (first rest : List Happening) → AreSer
 serving_before config [] rest all = tt
 serving_before config (h ∷ first) rest all = (all.0, serving_before config first rest all.1)
 
+begun_statuses : (before : Option (List (List ℕ))) (report : List Line) → IsRunSoFar before report → AreAnsweredByFaults report
+begun_statuses before report h = run_answers_by_faults report h.first h.disk h.run
+
 -- what the beginning of a report tells of its requests, where a run has that report
 so_far_served : (jobs : List Submission) (before : Option (List (List ℕ))) (report : List Line) → HasRunSoFar jobs before report → ServesRequestsSoFar jobs before report
 so_far_served jobs before report h = record {
   disk = begun_run jobs before report h;
   submissions = begun_answered jobs before report h;
   once = begun_once jobs before report h;
+  statuses = begun_statuses before report (begun_run jobs before report h);
   quiet = begun_at_quiet jobs before report h;
   unbroken = begun_unbroken jobs before report h;
   states = begun_states jobs before report h;
@@ -288,6 +297,7 @@ report_serves config detail history before now h long runs all of =
       disk = run;
       submissions = reports_answered config detail history before now h.plain may long runs of;
       once = once_of config.sectors before.content now.content _ run;
+      statuses = statuses_of config.sectors before.content now.content _ run;
       quiet = quiet_of config.sectors before.content now.content _ run;
       unbroken = reports_unbroken config detail history before now h.plain may long runs of;
       states = reports_states config detail history before now h.plain may long runs of;
@@ -303,6 +313,7 @@ ended_serves config detail history before now h long runs all of =
       disk = run;
       submissions = ended_answered config detail history before now h.plain may long runs of;
       once = once_of config.sectors before.content now.content _ run;
+      statuses = statuses_of config.sectors before.content now.content _ run;
       quiet = quiet_of config.sectors before.content now.content _ run;
       unbroken = ended_unbroken config detail history before now h.plain may long runs of;
       states = ended_states config detail history before now h.plain may long runs of;
@@ -501,6 +512,7 @@ nothing_lawful config detail jobs before =
         disk = run;
         submissions = obeys_none (IsAnswerAt jobs);
         once = run_answers_once [] run.first run.disk run.run;
+        statuses = run_answers_by_faults [] run.first run.disk run.run;
         quiet = run_answers_at_quiet [] run.first run.disk run.run;
         unbroken = All-nil (λ (line : Line). is_breach line ≡ false);
         states = obeys_none IsStateAt;

@@ -36,6 +36,7 @@ use Rattle.machine_pipeline.specs.Submissions.{jobs_of}
 use Rattle.pipeline_laws.specs.Submissions.{IsAnswerAt, AreAnswered}
 use Rattle.pipeline_laws.specs.Answered.{AreAnsweredOnce, IsQuietAnswered}
 use Rattle.pipeline_laws.specs.Unbroken.{IsUnbroken}
+use Rattle.answer_laws.specs.Okay.{AreAnsweredByFaults}
 use Rattle.pipeline_laws.specs.States.{AreStates}
 use Rattle.report_laws.specs.Begun.{IsBegun, IsBegunSoFar}
 use Rattle.report_laws.specs.Grammar.{IsInGrammar}
@@ -85,11 +86,12 @@ pub record HasCauses (report : List Line) : Type 0 where
   pub answers : AreRead report
   pub states : StandAsSaid report
 
--- a report is a run of the plain disk, from what the disk held to what it holds; it answers these submissions, one line each, as the lines before say; each request has at most one answer; at each `quiet` line all have theirs; no line of it is a breach of the protocol, and the front connects and closes in order
+-- a report is a run of the plain disk, from what the disk held to what it holds; it answers these submissions, one line each, as the lines before say; each request has at most one answer, `error` where the disk failed at it in its epoch and else `ok`; at each `quiet` line all have theirs; no line of it is a breach of the protocol, and the front connects and closes in order
 pub record ServesRequests (config : Options) (jobs : List Submission) (before now : Option (List (List ℕ))) (report : List Line) : Type 0 where
   pub disk : IsRun config.sectors before now report
   pub submissions : AreAnswered jobs report
   pub once : AreAnsweredOnce report
+  pub statuses : AreAnsweredByFaults report
   pub quiet : IsQuietAnswered report
   pub unbroken : IsUnbroken report
   pub states : AreStates report
@@ -99,6 +101,7 @@ pub record ServesRequestsSoFar (jobs : List Submission) (before : Option (List (
   pub disk : IsRunSoFar before report
   pub submissions : Obeys (IsAnswerAt jobs) report
   pub once : AreAnsweredOnce report
+  pub statuses : AreAnsweredByFaults report
   pub quiet : IsQuietAnswered report
   pub unbroken : IsUnbroken report
   pub states : AreStates report

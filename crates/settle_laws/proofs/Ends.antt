@@ -1,9 +1,7 @@
 -- What happens before a hostile hand first touches anything is settled, as the machine of the ring sees it, where each of its settlings ends in quiet.
-use Rattle.std.proofs.Common.{◌≡◌, ◌∙◌, ap, sym, subst, ℕ, zero, suc, ◌&&◌, Bool, true, false, List, [], ◌∷◌, ◌++◌, map, replicate, refl, if◌then◌else◌}
+use Rattle.std.proofs.Common.{◌≡◌, ◌&&◌, Bool, true, false, List, [], ◌∷◌, ◌++◌, map, refl, if◌then◌else◌}
 use Rattle.std.specs.List.{list_all}
-use Rattle.std.proofs.lemmas.List.Folds.{list_all-append, list_all-map}
 use Rattle.line_text.proofs.Both.{both_true}
-use Rattle.hypervisor.specs.Act.{Outcome}
 use Rattle.blk_base.specs.declared.parts.End.{End}
 use Rattle.blk_base.specs.declared.parts.End.TheVariants as end
 use Rattle.split_model.specs.Keys.{KeyMove}
@@ -13,8 +11,7 @@ use Rattle.report_laws.specs.Settled.{ends_quiet, AreSettled}
 use Rattle.vbd_back.specs.Ask as back
 use Rattle.vbd_front.specs.Ask as front
 use Rattle.vbd_model.specs.World.{World}
-use Rattle.vbd_model.specs.Happening.{Happening, FrontMoves, BackMoves, JobMoves, Closes, Pokes, OverwritesKey, Suspends, Looks, Settles, front_turn, back_turn, entered_at, halted_at, front_key, back_key, is_fronts_ring, is_backs_ring, attaches, back_negotiates, does, happens, all_does}
-use Rattle.vbd_model.specs.Kind.{AreJobMoves, AreEachJobs, IsRound, AreRounds, round_start, IsBeginning}
+use Rattle.vbd_model.specs.Happening.{Happening, FrontMoves, BackMoves, JobMoves, Closes, Pokes, OverwritesKey, Settles, front_turn, back_turn, entered_at, halted_at, front_key, back_key, is_fronts_ring, is_backs_ring, attaches, back_negotiates, does, happens, all_does}
 use Rattle.vbd_laws.proofs.MovesTurns.{front_asks, back_asks, back_learns}
 
 -- settling ended in quiet, where this is its end

@@ -1,13 +1,13 @@
 -- The happenings of an event that isn't hostile are moves, or a single one; and settling ends in quiet.
-use Rattle.std.proofs.Common.{◌≡◌, ◌∙◌, ◌⊎◌, ap, sym, subst, inl, inr, ℕ, zero, suc, ◌&&◌, Bool, true, false, true≢false, List, [], ◌∷◌, ◌++◌, replicate, refl}
+use Rattle.std.proofs.Common.{◌≡◌, ◌∙◌, sym, subst, inl, inr, ℕ, zero, suc, Bool, true, false, true≢false, List, [], ◌∷◌, ◌++◌, replicate, refl}
 use Rattle.std.specs.List.{list_all}
 use Rattle.std.proofs.lemmas.List.Folds.{list_all-append}
 use Rattle.line_text.proofs.Both.{both_true}
 use Rattle.schedule_text.specs.declared.event.Event.{Event}
 use Rattle.schedule_text.specs.declared.event.Event.TheVariants as events
 use Rattle.vbd_model.specs.World.{World, is_quiet}
-use Rattle.vbd_model.specs.Happening.{Happening, FrontMoves, BackMoves, JobMoves, Closes, Submits, Notifies, Pokes, OverwritesKey, Suspends, Dumps, Looks, Settles, after, happens}
-use Rattle.vbd_model.specs.Kind.{Makes, MakesSoFar, AreJobMoves, AreEachJobs, IsRound, AreRounds, AreRoundsUntilQuiet, AreRoundsSoFar, IsRoundSoFar, IsSettling, IsSettlingSoFar, IsBeginning, round_start, settle_bound, never}
+use Rattle.vbd_model.specs.Happening.{Happening, FrontMoves, BackMoves, Closes, Submits, Notifies, Pokes, OverwritesKey, Suspends, Dumps, Looks, Settles, after, happens}
+use Rattle.vbd_model.specs.Kind.{Makes, MakesSoFar, AreJobMoves, AreEachJobs, IsRound, AreRounds, AreRoundsUntilQuiet, AreRoundsSoFar, IsRoundSoFar, IsSettling, IsBeginning, round_start, settle_bound, never}
 use Rattle.vbd_laws.specs.Quiet.{AreUntouched}
 use Rattle.settle_laws.proofs.Ends.{ends_at, ends_until, is_move}
 

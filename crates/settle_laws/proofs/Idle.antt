@@ -1,9 +1,7 @@
 -- Where neither end has an act and no job is held, all is quiet.
-use Rattle.std.proofs.Common.{◌≡◌, ◌∙◌, ◌⊎◌, ap, sym, subst, inl, inr, ◌&&◌, ◌||◌, not, Bool, true, false, true≢false, List, [], ◌∷◌, length, refl, if◌then◌else◌, ◌==◌}
+use Rattle.std.proofs.Common.{◌≡◌, ◌∙◌, ◌⊎◌, ap, sym, inl, inr, ◌&&◌, ◌||◌, not, Bool, true, false, true≢false, List, [], ◌∷◌, length, refl, if◌then◌else◌, ◌==◌}
 use Rattle.std.specs.Prelude.{None}
 use Rattle.blk_base.specs.declared.parts.Mapping.{Mapping}
-use Rattle.blk_base.specs.declared.parts.End.TheVariants as end
-use Rattle.hypervisor.specs.Act.{has_to_take}
 use Rattle.blk_back.specs.declared.stage.BackStage.{BackStage}
 use Rattle.blk_back.specs.declared.stage.BackStage.TheVariants as ring
 use Rattle.blk_back.specs.Ask as ring_ask

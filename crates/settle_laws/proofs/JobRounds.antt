@@ -1,5 +1,5 @@
 -- The moves of all jobs of a round leave less to do where neither end has an act and not all is quiet, and never more.
-use Rattle.std.proofs.Common.{◌≡◌, ◌≢◌, ◌∙◌, ◌⊎◌, ap, sym, subst, inl, inr, ℕ, zero, suc, ◌+◌, ◌≤◌, ◌<◌, Bool, true, false, true≢false, List, [], ◌∷◌, ◌++◌, refl, arith, add-one}
+use Rattle.std.proofs.Common.{◌≡◌, ◌≢◌, ◌∙◌, ◌⊎◌, ap, sym, subst, inl, inr, ℕ, ◌+◌, ◌≤◌, true, false, true≢false, List, [], ◌∷◌, refl, arith}
 use Rattle.std.specs.Prelude.{Option, Some, None, is_some}
 use Rattle.std.proofs.lemmas.Option.{none-some, same_Some}
 use Rattle.blk_base.specs.Options.{Options}
@@ -16,11 +16,7 @@ use Rattle.split_model.specs.Happening.{job_turn, job_after}
 use Rattle.machine_pipeline.proofs.Over.{IsKept}
 use Rattle.vbd_model.specs.World.{World, is_quiet}
 use Rattle.vbd_model.specs.Happening.{Happening, FrontMoves, BackMoves, JobMoves, front_turn, back_turn, happens, after}
-use Rattle.vbd_model.specs.Kind.{AreEachJobs, AreAllJobs, IsRound, AreRounds, round_start}
-use Rattle.vbd_model.proofs.Running.{after-append}
-use Rattle.vbd_laws.specs.Moves.{IsNoMove}
-use Rattle.vbd_laws.proofs.MovesFront.{front_move_none}
-use Rattle.vbd_laws.proofs.MovesBack.{back_move_none}
+use Rattle.vbd_model.specs.Kind.{AreEachJobs, AreAllJobs}
 use Rattle.vbd_laws.proofs.ServedHonest.{Honest}
 use Rattle.settle_laws.specs.Total.{total_left}
 use Rattle.settle_laws.specs.Calls.{IsCall, AreCalls}

@@ -1,10 +1,9 @@
 -- Whatever both ends and the jobs do, what no end looks for any more stays.
-use Rattle.std.proofs.Common.{◌≡◌, ap, sym, subst, inl, inr, ℕ, ◌≤◌, ◌&&◌, true, false, true≢false, List, [], ◌∷◌, map, refl, arith}
+use Rattle.std.proofs.Common.{◌≡◌, ap, sym, subst, inl, inr, ◌≤◌, true, true≢false, List, [], ◌∷◌, map, refl, arith}
 use Rattle.std.specs.Prelude.{Option, Some, None, is_some}
 use Rattle.std.specs.List.{AllByRecursion, list_all}
 use Rattle.line_text.proofs.Both.{both_true}
 use Rattle.blk_base.specs.Options.{Options}
-use Rattle.blk_base.specs.declared.ask.FrontAsk.{FrontAsk}
 use Rattle.blk_front.specs.declared.state.FrontState.{FrontState}
 use Rattle.blk_base.specs.declared.halt.Halt.{Halt}
 use Rattle.hypervisor.specs.Act.{FrontAct, front_act}
@@ -17,14 +16,12 @@ use Rattle.machine_pipeline.specs.Plain.{IsPlain}
 use Rattle.machine_pipeline.specs.Allowed.{AreServed}
 use Rattle.machine_pipeline.proofs.Over.{IsKept}
 use Rattle.machine_pipeline.proofs.Together.{step_kept}
-use Rattle.vbd_front.specs.Ask as front
-use Rattle.vbd_front.specs.Step as front_step
-use Rattle.vbd_model.specs.World.{World, frontend_of}
+use Rattle.vbd_model.specs.World.{World}
 use Rattle.vbd_model.specs.Happening.{Happening, FrontMoves, BackMoves, JobMoves, Pokes, OverwritesKey, front_turn, back_turn, entered_at, halted_at, front_does, back_does, happens, after}
 use Rattle.vbd_model.specs.Possible.{ArePossible}
 use Rattle.vbd_laws.specs.Moves.{IsNoMove}
 use Rattle.vbd_laws.specs.Quiet.{IsUntouched}
-use Rattle.vbd_laws.proofs.MovesTurns.{front_asks, back_asks, front_cases, back_cases}
+use Rattle.vbd_laws.proofs.MovesTurns.{front_cases, back_cases}
 use Rattle.vbd_laws.proofs.MovesFront.{front_move_none}
 use Rattle.vbd_laws.proofs.ServedHonest.{Honest, Going, whole_now, hand_now}
 use Rattle.ring_settle_laws.proofs.Stations.{IsEndsMove}
@@ -66,11 +63,13 @@ back_timely w =
 front_timely : (config : Options) (w : World) → Honest config w → Going w → (a : FrontAct) → front_turn w ≡ Some a → AreTimely (front_does w) w.rings
 front_timely config w honest going a turn =
     front_cases (λ does asked step. front_act w.rings.under asked ≡ Some a → AreTimely does w.rings) w
-    (λ says e.
-    (tt, tt,
-    states_timely (entered_at w (front_turn w)) _
-    (subst (λ (act : Option FrontAct). AllByRecursion (EntersInTime (is_some w.rings.back.halted)) (entered_at w act)) (sym turn)
-    (entered_in_time w a honest.stands.fit (whole_now config w.rings honest.standing) (hand_now config w honest) going.joined turn says e))))
+    (λ says e. (
+      tt,
+      tt,
+      states_timely (entered_at w (front_turn w)) _
+          (subst (λ (act : Option FrontAct). AllByRecursion (EntersInTime (is_some w.rings.back.halted)) (entered_at w act)) (sym turn)
+          (entered_in_time w a honest.stands.fit (whole_now config w.rings honest.standing) (hand_now config w honest) going.joined turn says e)),
+    ))
     (λ quiet moves e. (tt, tt, tt)) (λ quiet still e. (tt, tt, tt)) turn
 
 front_late : (config : Options) (w : World) → Honest config w → late_left w.rings ≤ late_left (let v : World = happens w FrontMoves in v.rings)

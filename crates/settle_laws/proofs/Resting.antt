@@ -1,9 +1,8 @@
 -- An end that has no act waits, with nothing to take; and where neither end has one and no job is held, all is quiet.
-use Rattle.std.proofs.Common.{◌≡◌, ◌≢◌, ◌∙◌, ap, sym, subst, ◌⊎◌, inl, inr, ◌&&◌, ◌||◌, not, Bool, true, false, true≢false, List, [], ◌∷◌, length, refl, if◌then◌else◌, ◌==◌, ℕ}
+use Rattle.std.proofs.Common.{◌≡◌, sym, subst, ◌||◌, not, Bool, true, false, List, [], ◌∷◌, refl, if◌then◌else◌, ℕ}
 use Rattle.std.specs.Prelude.{Option, Some, None}
 use Rattle.std.proofs.lemmas.Option.{none-some}
 use Rattle.blk_base.specs.declared.parts.End.TheVariants as end
-use Rattle.blk_base.specs.declared.parts.Mapping.{Mapping}
 use Rattle.blk_base.specs.declared.moves.BackMover.TheVariants as back_mover
 use Rattle.blk_base.specs.declared.ask.FrontAsk.{FrontAsk}
 use Rattle.blk_base.specs.declared.ask.FrontAsk.TheVariants as front_ask
@@ -13,17 +12,15 @@ use Rattle.key_directory.specs.Watches.{Watches, next_watch, has_pending, is_emp
 use Rattle.key_directory.specs.Directory.{watches_of}
 use Rattle.event_channel.specs.Channels.{is_pending}
 use Rattle.hypervisor.specs.Hypervisor.{Hypervisor}
-use Rattle.hypervisor.specs.Act.{FrontAct, BackAct, Took, front_act, back_act, front_watched, back_watched, watch_next, has_to_take, bind_act, map_act}
+use Rattle.hypervisor.specs.Act.{Took, front_act, back_act, front_watched, back_watched, watch_next, has_to_take}
 use Rattle.blk_front.specs.Submit.{is_wait}
-use Rattle.blk_back.specs.declared.stage.BackStage.{BackStage}
-use Rattle.blk_back.specs.declared.stage.BackStage.TheVariants as back_stage
 use Rattle.blk_back.specs.Ask as ring_ask
 use Rattle.split_model.proofs.SafeActs.{front_event, back_event}
 use Rattle.line_text.proofs.Both.{both_true}
 use Rattle.split_model.proofs.SafeAnswers.{AsksNoKey, fronts_no_key, IsBacks, backs_of}
 use Rattle.vbd_front.specs.Ask as front
 use Rattle.vbd_back.specs.Ask as back
-use Rattle.vbd_model.specs.World.{World, frontend_of, backend_of, is_quiet}
+use Rattle.vbd_model.specs.World.{World, frontend_of, backend_of}
 use Rattle.vbd_model.specs.Happening.{front_turn, back_turn}
 use Rattle.vbd_laws.proofs.MovesTurns.{front_asks, back_asks, front_cases, back_cases, front_speaks, back_speaks}
 

@@ -1,5 +1,5 @@
 -- Each settling of a schedule ends in quiet, up to the first word or key that a hostile hand overwrites.
-use Rattle.std.proofs.Common.{◌≡◌, ◌∙◌, ap, sym, subst, ℕ, ◌+◌, ◌<◌, ◌&&◌, Bool, true, List, [], ◌∷◌, ◌++◌, refl, append_assoc}
+use Rattle.std.proofs.Common.{◌≡◌, ◌∙◌, ap, sym, subst, ◌+◌, ◌<◌, true, List, [], ◌∷◌, ◌++◌, refl, append_assoc}
 use Rattle.std.proofs.lemmas.List.{append-nil}
 use Rattle.blk_base.specs.Options.{Options}
 use Rattle.schedule_text.specs.Range.{AreOptions}
@@ -9,7 +9,7 @@ use Rattle.machine_pipeline.proofs.Over.{IsKept}
 use Rattle.vbd_model.specs.World.{World, start_of, is_quiet}
 use Rattle.vbd_model.specs.Happening.{Happening, Settles, Pokes, OverwritesKey, after, happens}
 use Rattle.vbd_model.specs.Kind.{are_carried, AreOfAll, AreOfSoFar, AreRoundsUntilQuiet, settle_bound}
-use Rattle.vbd_model.specs.Possible.{IsPossible, ArePossible}
+use Rattle.vbd_model.specs.Possible.{ArePossible}
 use Rattle.vbd_model.proofs.Running.{after-append}
 use Rattle.vbd_model.proofs.Possible.{possible_first, event_possible, event_so_far_possible}
 use Rattle.vbd_laws.specs.Quiet.{AreUntouched}

@@ -1,10 +1,8 @@
 -- Settling ends in quiet within its bound of rounds.
-use Rattle.std.proofs.Common.{◌≡◌, ◌∙◌, ℕ, List, [], ◌∷◌, ◌++◌, refl}
-use Rattle.std.specs.Prelude.{true}
-use Rattle.blk_base.specs.Options.{Options}
+use Rattle.std.proofs.Common.{List, [], ◌∷◌, ◌++◌}
 use Rattle.blk_io.specs.Disk.{DiskSeen}
 use Rattle.vbd_model.specs.World.{World, start_of, is_quiet}
-use Rattle.vbd_model.specs.Happening.{Happening, FrontMoves, BackMoves, JobMoves, Closes, Submits, Notifies, Pokes, OverwritesKey, Suspends, Dumps, Looks, Settles, DiskGoes, DiskRuns, happens, after}
+use Rattle.vbd_model.specs.Happening.{Happening, JobMoves, DiskGoes, DiskRuns, happens, after}
 use Rattle.vbd_model.proofs.Possible.{rounds_possible}
 use Rattle.settle_laws.specs.Calls.{IsCall, AreCalls}
 use Rattle.settle_laws.specs.Laws.{EachSettlingEnds, EachScheduleSettles, EachBeginningSettles}

@@ -1,8 +1,6 @@
 -- The machine as it stands after a history that no hostile hand touched.
-use Rattle.std.proofs.Common.{◌≡◌, ◌∙◌, ap, sym, subst, ◌≤◌, List, [], ◌∷◌, ◌++◌, refl}
+use Rattle.std.proofs.Common.{◌≡◌, ◌∙◌, ap, subst, List, [], ◌∷◌, ◌++◌, refl}
 use Rattle.blk_base.specs.Options.{Options}
-use Rattle.blk_base.specs.declared.ask.BackAsk.TheVariants as back_ask
-use Rattle.blk_back.specs.Step.{job_ask_of}
 use Rattle.machine_pipeline.specs.Plain.{IsPlain}
 use Rattle.vbd_model.specs.World.{World, start_of}
 use Rattle.blk_base.specs.declared.parts.End.{End}
@@ -11,10 +9,9 @@ use Rattle.split_model.specs.Happening as ring
 use Rattle.machine_pipeline.specs.Allowed.{AreServed}
 use Rattle.ring_settle_laws.proofs.Calm.{IsCalm, run_calm}
 use Rattle.vbd_model.specs.Happening.{Happening, FrontMoves, BackMoves, Closes, Pokes, OverwritesKey, does, happens, after}
-use Rattle.vbd_model.specs.Possible.{IsPossible, ArePossible}
+use Rattle.vbd_model.specs.Possible.{IsPossible}
 use Rattle.vbd_model.proofs.Running.{after-append}
-use Rattle.vbd_laws.specs.Quiet.{IsUntouched, AreUntouched}
-use Rattle.vbd_laws.specs.Waits.{JobMayWait}
+use Rattle.vbd_laws.specs.Quiet.{IsUntouched}
 use Rattle.vbd_laws.proofs.ServedHonest.{Honest, honest_after, all_served}
 use Rattle.vbd_laws.proofs.WaitsJobsHeld.{job_waits_alone}
 use Rattle.settle_laws.proofs.TurnsServed.{IsHonest, front_honest, back_honest}

@@ -1,14 +1,13 @@
 -- While the back waits no job that it holds is done: it would reply to it.
-use Rattle.std.proofs.Common.{◌≡◌, ◌∙◌, ◌⊎◌, ap, sym, subst, inl, inr, ℕ, ◌+◌, ◌≤◌, Bool, true, false, true≢false, List, [], ◌∷◌, length, refl, arith}
+use Rattle.std.proofs.Common.{◌≡◌, ◌∙◌, ◌⊎◌, ap, sym, subst, inl, inr, ℕ, ◌≤◌, Bool, true, false, true≢false, List, ◌∷◌, length, refl, arith}
 use Rattle.std.specs.Prelude.{Option, Some, None, is_some, position, All}
-use Rattle.std.proofs.lemmas.Option.{none-some}
 use Rattle.std.proofs.lemmas.List.Elements.{All-head}
 use Rattle.blk_base.specs.Options.{Options}
 use Rattle.blk_front.specs.declared.stage.FrontStage.{FrontStage}
 use Rattle.back_jobs.specs.declared.stage.JobStage.{JobStage}
 use Rattle.back_jobs.specs.declared.stage.JobStage.TheVariants as job
 use Rattle.back_jobs.specs.Work.{Work}
-use Rattle.back_jobs.specs.Jobs.{is_done, is_done_at, response_of, response_at, work_at, done_of}
+use Rattle.back_jobs.specs.Jobs.{is_done, is_done_at, response_at, work_at, done_of}
 use Rattle.blk_back.specs.declared.stage.Reply.{Reply}
 use Rattle.blk_back.specs.declared.stage.BackStage.{BackStage}
 use Rattle.blk_back.specs.declared.stage.BackStage.TheVariants as back
@@ -16,7 +15,7 @@ use Rattle.blk_back.specs.View as ends
 use Rattle.blk_back.specs.Ask.{is_wait, is_led, ask_at, loop_ask, next_reply, reply_of}
 use Rattle.split_model.specs.World.{World}
 use Rattle.pipeline_laws.specs.Pipeline.{Pipeline}
-use Rattle.machine_pipeline.proofs.Flow.{Flow, reply_at, reply_count}
+use Rattle.machine_pipeline.proofs.Flow.{Flow}
 use Rattle.machine_pipeline.proofs.Holds.{Holds, IsWork}
 use Rattle.settle_laws.proofs.Working.{passes_first}
 

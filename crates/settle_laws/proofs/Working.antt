@@ -1,15 +1,14 @@
 -- Of the jobs that are held the one of the lowest number goes on, where none is done: it has an act, whatever the disk answers its call.
-use Rattle.std.proofs.Common.{◌≡◌, ◌≢◌, ◌∙◌, ◌⊎◌, ap, sym, subst, inl, inr, ℕ, ◌<◌, ◌≤◌, ◌==◌, not, Bool, true, false, true≢false, List, [], ◌∷◌, ◌++◌, refl, arith}
-use Rattle.std.specs.Prelude.{Option, Some, None, is_some, nat_lt, position}
+use Rattle.std.proofs.Common.{◌≡◌, ◌≢◌, ◌∙◌, ap, sym, subst, inl, inr, ℕ, ◌≤◌, ◌==◌, not, Bool, true, false, true≢false, List, ◌∷◌, refl, arith}
+use Rattle.std.specs.Prelude.{Option, Some, None, is_some, position}
 use Rattle.std.proofs.lemmas.Option.{none-some}
 use Rattle.std.proofs.lemmas.Bool.{eq-eqb, lt-ltb}
-use Rattle.blk_base.specs.Options.{Options}
 use Rattle.blk_base.specs.declared.ask.BackAsk.{BackAsk}
 use Rattle.blk_base.specs.declared.ask.BackAsk.TheVariants as back_ask
 use Rattle.blk_base.specs.declared.moves.BackMover.TheVariants as back_mover
 use Rattle.blk_io.specs.Disk.{DiskSeen}
 use Rattle.hypervisor.specs.Hypervisor.{Hypervisor}
-use Rattle.hypervisor.specs.Act.{BackAct, Outcome, Gave, Took, Failed, back_act}
+use Rattle.hypervisor.specs.Act.{Outcome, Gave, Took, Failed, back_act}
 use Rattle.hypervisor.specs.Disk.{DiskDoes}
 use Rattle.back_jobs.specs.Work.{Work}
 use Rattle.back_jobs.specs.Jobs.{is_done, place_of, work_of, work_at, waits, waits_at, next_in}

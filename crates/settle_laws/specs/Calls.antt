@@ -1,5 +1,5 @@
 -- What a disk may answer a job's call: the outcome is of the kind that the job asked for.
-use Rattle.std.specs.Prelude.{ℕ, List, [], ◌∷◌}
+use Rattle.std.specs.Prelude.{List, [], ◌∷◌}
 use Rattle.blk_io.specs.Disk.{DiskSeen}
 use Rattle.hypervisor.specs.Disk.{DiskDoes}
 use Rattle.blk_back.specs.Step.{job_ask_of}
