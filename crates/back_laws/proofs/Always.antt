@@ -14,7 +14,7 @@ use Rattle.blk_back.specs.Sound.{IsPlaced, IsCounted}
 use Rattle.back_laws.specs.BackLeft.{IsSeen}
 use Rattle.back_laws.specs.Happening.{Happening, Answers, AnswersJob, TakesTold, Attaches, Halts, happened, MayHappen, after, AllMayHappen}
 use Rattle.back_laws.specs.Run.{BackRun, begins, now}
-use Rattle.back_laws.specs.Deed.{Asked}
+use Rattle.back_laws.specs.Activity.{Asked}
 use Rattle.back_laws.specs.Ledger.{JobAsked, job_at, job_asks}
 use Rattle.back_laws.specs.Life.{own_at, own_asks, called_at, called}
 use Rattle.back_laws.proofs.Calls.{attaches_cases}

@@ -15,7 +15,7 @@ use Rattle.blk_back.specs.View.{View}
 use Rattle.blk_back.proofs.Hands.{hands_after, job_hands_after, attached_hands, halted_hands}
 use Rattle.back_laws.specs.Happening.{Happening, Answers, AnswersJob, TakesTold, Attaches, Halts, MayHappen}
 use Rattle.back_laws.specs.Run.{BackRun, begins, now}
-use Rattle.back_laws.specs.Deed.{Asked, Reach, Waits, Rests, Fetches, Replies, entry_from, read, wrote, fenced, sent, page_at, slot_page, slot_word, replied_word, asks_of, indices, IsRight, IsBegun}
+use Rattle.back_laws.specs.Activity.{Asked, Reach, Waits, Rests, Fetches, Replies, entry_from, read, wrote, fenced, sent, page_at, slot_page, slot_word, replied_word, asks_of, indices, IsRight, IsBegun}
 use Rattle.back_laws.specs.Ledger.{JobAsked, job_asks, Ledger, entries_in, replies_in}
 use Rattle.back_laws.specs.Life.{own_asks, called, reach_of, under_way, Opens, Serves, Goes, HasHalted}
 use Rattle.back_laws.specs.Laws.{LivesSo, HoldsFewJobs, NamesWhatItHolds, JobsNameWhatIsHeld, HoldsAfter, HoldsWhatItWasGiven, EachAnswerLowers}
@@ -40,25 +40,25 @@ Lives start trace own calls v = Goes start v.shape own v.halted v.jobs.info trac
 opens : (start : ℕ) (trace : List JobAsked) (own : List Asked) (calls : List Halt) (v : View) → IsOpened start trace own (here v) v.halted v.jobs.works v.fetched → Lives start trace own calls v
 opens start trace own calls v o = inl (record { life = Opens own; is = o.opens; requests = (o.jobless, o.quiet); asked = refl; none = o.none })
 
-serves : (start : ℕ) (trace : List JobAsked) (own : List Asked) (calls : List Halt) (v : View) (under : List Reply) (r : Reach) (part : List Asked) (begun : IsBegun r part) → under ≡ under_way begun.deed part → At start trace own v under r part → Lives start trace own calls v
+serves : (start : ℕ) (trace : List JobAsked) (own : List Asked) (calls : List Halt) (v : View) (under : List Reply) (r : Reach) (part : List Asked) (begun : IsBegun r part) → under ≡ under_way begun.activity part → At start trace own v under r part → Lives start trace own calls v
 serves start trace own calls v under r part begun same a =
-    let from_there : IsBegun (reach_of start v.shape a.opening a.deeds) part = record {
-      deed = begun.deed;
+    let from_there : IsBegun (reach_of start v.shape a.opening a.activities) part = record {
+      activity = begun.activity;
       rest = begun.rest;
-      right = subst (λ (x : Reach). IsRight x begun.deed) (sym a.reach) begun.right;
-      first = ap (λ (x : Reach). asks_of x begun.deed) a.reach ∙ begun.first;
+      right = subst (λ (x : Reach). IsRight x begun.activity) (sym a.reach) begun.right;
+      first = ap (λ (x : Reach). asks_of x begun.activity) a.reach ∙ begun.first;
     } in
     inl (record {
-      life = Serves a.opening a.port a.deeds part;
+      life = Serves a.opening a.port a.activities part;
       is = (a.is, from_there);
-      requests = λ few. subst (λ (l : List Reply). Ledger v.jobs.info v.shape.abi trace (entries_in a.deeds) (l ++ replies_in a.deeds) v.jobs.works) same ((a.kept).requests few).ledger;
+      requests = λ few. subst (λ (l : List Reply). Ledger v.jobs.info v.shape.abi trace (entries_in a.activities) (l ++ replies_in a.activities) v.jobs.works) same ((a.kept).requests few).ledger;
       asked = a.asked;
       none = a.none;
     })
 
 -- nothing was begun
 abbrev at_rest : (r : Reach) → IsBegun r []
-at_rest r = record { deed = Waits answer.Event; rest = asks_of r (Waits answer.Event); right = tt; first = refl }
+at_rest r = record { activity = Waits answer.Event; rest = asks_of r (Waits answer.Event); right = tt; first = refl }
 
 -- the producer may be the consumer
 no_overrun : (v : View) → v.ring.indices.entries ≡ entries_of v.shape.order → distance_of v.ring.indices.prod v.ring.indices.cons ≤ v.ring.indices.entries → overruns (indices (here v)) v.ring.indices.cons ≡ false
@@ -80,29 +80,29 @@ lives_at (stage.Fetch n) start trace own calls v e room k =
     let both : length (v.ring.entry ++ zeros) ≡ length v.ring.entry + length zeros = length-append v.ring.entry zeros in
     let long = k.0.1 in let inside = k.0.2 in
     serves start trace own calls v [] (here v) (entry_from (here v) 0 v.ring.entry)
-    (record { deed = Fetches (v.ring.entry ++ zeros); rest = entry_from (here v) (0 + length v.ring.entry) zeros; right = (shown, omega arith); first = entry_append (here v) 0 v.ring.entry zeros })
+    (record { activity = Fetches (v.ring.entry ++ zeros); rest = entry_from (here v) (0 + length v.ring.entry) zeros; right = (shown, omega arith); first = entry_append (here v) 0 v.ring.entry zeros })
     refl k.1
 lives_at (stage.ReplyHigh r) start trace own calls v e room k =
     let one = room.0 in
-    serves start trace own calls v (r ∷ []) (here v) _ (record { deed = Replies r 0; rest = replied_word (here v) r 1 ∷ replied_word (here v) r 2 ∷ wrote (page_at (here v) 0) 2 (next_of v.ring.indices.prod) ∷ fenced ∷ read (page_at (here v) 0) 3 0 ∷ sent (notifies v.ring.indices.prod (next_of v.ring.indices.prod) 0); right = omega arith; first = refl }) refl k
+    serves start trace own calls v (r ∷ []) (here v) _ (record { activity = Replies r 0; rest = replied_word (here v) r 1 ∷ replied_word (here v) r 2 ∷ wrote (page_at (here v) 0) 2 (next_of v.ring.indices.prod) ∷ fenced ∷ read (page_at (here v) 0) 3 0 ∷ sent (notifies v.ring.indices.prod (next_of v.ring.indices.prod) 0); right = omega arith; first = refl }) refl k
 lives_at (stage.ReplyLast r) start trace own calls v e room k =
     let one = room.0 in
-    serves start trace own calls v (r ∷ []) (here v) _ (record { deed = Replies r 0; rest = replied_word (here v) r 2 ∷ wrote (page_at (here v) 0) 2 (next_of v.ring.indices.prod) ∷ fenced ∷ read (page_at (here v) 0) 3 0 ∷ sent (notifies v.ring.indices.prod (next_of v.ring.indices.prod) 0); right = omega arith; first = refl }) refl k
+    serves start trace own calls v (r ∷ []) (here v) _ (record { activity = Replies r 0; rest = replied_word (here v) r 2 ∷ wrote (page_at (here v) 0) 2 (next_of v.ring.indices.prod) ∷ fenced ∷ read (page_at (here v) 0) 3 0 ∷ sent (notifies v.ring.indices.prod (next_of v.ring.indices.prod) 0); right = omega arith; first = refl }) refl k
 lives_at (stage.Producer r) start trace own calls v e room k =
     let one = room.0 in
-    serves start trace own calls v (r ∷ []) (here v) (three (here v) r) (record { deed = Replies r 0; rest = wrote (page_at (here v) 0) 2 (next_of v.ring.indices.prod) ∷ fenced ∷ read (page_at (here v) 0) 3 0 ∷ sent (notifies v.ring.indices.prod (next_of v.ring.indices.prod) 0); right = omega arith; first = refl }) refl k
+    serves start trace own calls v (r ∷ []) (here v) (three (here v) r) (record { activity = Replies r 0; rest = wrote (page_at (here v) 0) 2 (next_of v.ring.indices.prod) ∷ fenced ∷ read (page_at (here v) 0) 3 0 ∷ sent (notifies v.ring.indices.prod (next_of v.ring.indices.prod) 0); right = omega arith; first = refl }) refl k
 lives_at (stage.ProducerFence old) start trace own calls v e room k =
-    serves start trace own calls v (k.0 ∷ []) (before_push old v) (pushed (before_push old v) k.0) (record { deed = Replies k.0 0; rest = fenced ∷ read (page_at (here v) 0) 3 0 ∷ sent (notifies old (next_of old) 0); right = k.1.1; first = refl }) refl k.2
+    serves start trace own calls v (k.0 ∷ []) (before_push old v) (pushed (before_push old v) k.0) (record { activity = Replies k.0 0; rest = fenced ∷ read (page_at (here v) 0) 3 0 ∷ sent (notifies old (next_of old) 0); right = k.1.1; first = refl }) refl k.2
 lives_at (stage.ResponseEvent old) start trace own calls v e room k =
-    serves start trace own calls v (k.0 ∷ []) (before_push old v) (pushed (before_push old v) k.0 ++ fenced ∷ []) (record { deed = Replies k.0 0; rest = read (page_at (here v) 0) 3 0 ∷ sent (notifies old (next_of old) 0); right = k.1.1; first = refl }) refl k.2
+    serves start trace own calls v (k.0 ∷ []) (before_push old v) (pushed (before_push old v) k.0 ++ fenced ∷ []) (record { activity = Replies k.0 0; rest = read (page_at (here v) 0) 3 0 ∷ sent (notifies old (next_of old) 0); right = k.1.1; first = refl }) refl k.2
 lives_at stage.Send start trace own calls v e room k =
     let old : ℕ = k.1 in let event : ℕ = k.2 in
-    serves start trace own calls v (k.0 ∷ []) (before_push old v) _ (record { deed = Replies k.0 event; rest = sent (notifies old (next_of old) event); right = k.3.1; first = refl }) refl k.5
+    serves start trace own calls v (k.0 ∷ []) (before_push old v) _ (record { activity = Replies k.0 event; rest = sent (notifies old (next_of old) event); right = k.3.1; first = refl }) refl k.5
 lives_at stage.StoreEvent start trace own calls v e room k = serves start trace own calls v [] (here v) [] (at_rest (here v)) refl k.1
 lives_at stage.EventFence start trace own calls v e room k =
-    serves start trace own calls v [] (here v) _ (record { deed = Rests v.ring.indices.cons; rest = fenced ∷ read (page_at (here v) 0) 0 v.ring.indices.cons ∷ []; right = (k.0, no_overrun v e room.1); first = refl }) refl k.1
+    serves start trace own calls v [] (here v) _ (record { activity = Rests v.ring.indices.cons; rest = fenced ∷ read (page_at (here v) 0) 0 v.ring.indices.cons ∷ []; right = (k.0, no_overrun v e room.1); first = refl }) refl k.1
 lives_at stage.LookAgain start trace own calls v e room k =
-    serves start trace own calls v [] (here v) _ (record { deed = Rests v.ring.indices.cons; rest = read (page_at (here v) 0) 0 v.ring.indices.cons ∷ []; right = (k.0, no_overrun v e room.1); first = refl }) refl k.1
+    serves start trace own calls v [] (here v) _ (record { activity = Rests v.ring.indices.cons; rest = read (page_at (here v) 0) 0 v.ring.indices.cons ∷ []; right = (k.0, no_overrun v e room.1); first = refl }) refl k.1
 lives_at (stage.Abort m) start trace own calls v e room k = inr k
 lives_at stage.UnmapRing start trace own calls v e room k = inr k
 lives_at stage.ClosePort start trace own calls v e room k = inr k

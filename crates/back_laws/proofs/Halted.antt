@@ -13,7 +13,7 @@ use Rattle.blk_back.specs.View.{View}
 use Rattle.blk_back.specs.Step.{step_at, unmapping_next, unbound, bound, other_pages}
 use Rattle.back_laws.specs.Happening.{Happening, Answers, AnswersJob, TakesTold, Attaches, Halts, happened, after}
 use Rattle.back_laws.specs.Run.{begins, now}
-use Rattle.back_laws.specs.Deed.{Asked}
+use Rattle.back_laws.specs.Activity.{Asked}
 use Rattle.back_laws.specs.Ledger.{JobAsked, job_asks}
 use Rattle.back_laws.specs.Life.{own_asks, called}
 use Rattle.back_laws.specs.Laws.{StaysHalted, NoJobGoesOn}

@@ -27,7 +27,7 @@ use Rattle.std.proofs.lemmas.List.Sums.{sum_by-set}
 use Rattle.back_jobs.specs.Sound.{IsPlaced, IsUnderWay, IsLeft}
 use Rattle.back_laws.specs.JobLeft.{left_of, all_left, left_at, segments_left, after_sector, after_page}
 
-abbrev Lowers : JobStage → Work → BackAnswer → Type 0
+abbrev pub Lowers : JobStage → Work → BackAnswer → Type 0
 Lowers s t a = left_of (step_at s t a) < left_at s t
 
 either_below : (b : Bool) (t u : Work) (n : ℕ) → left_of t < n → left_of u < n → left_of (if b then t else u) < n
@@ -104,14 +104,14 @@ page_done_left t some = by_test (length t.rest == t.named) refl
     by_test false e = omega arith
 
 -- a sector is begun, or the segment is done
-sector_left : (t : Work) (m : Mapping) → left_of (record t { stage = work.sector_stage t.writes m }) ≡ 129 + after_sector t
+pub sector_left : (t : Work) (m : Mapping) → left_of (record t { stage = work.sector_stage t.writes m }) ≡ 129 + after_sector t
 sector_left t m = by_way t.writes
   where
     by_way : (b : Bool) → left_of (record t { stage = work.sector_stage b m }) ≡ 129 + after_sector t
     by_way true = omega arith
     by_way false = refl
 
-next_left : (t : Work) (m : Mapping) → t.within ≤ last_of t.rest → left_of (next_sector t m) ≤ after_sector t
+pub next_left : (t : Work) (m : Mapping) → t.within ≤ last_of t.rest → left_of (next_sector t m) ≤ after_sector t
 next_left t m within = by_test (t.within == last_of t.rest) refl
   where
     next : Work
@@ -134,21 +134,21 @@ segment_lowers t (s ∷ []) u = omega arith
 segment_lowers t (s ∷ r ∷ rest) u = omega (arith, begun_first t (r ∷ rest) (omega arith) (u.1.0).nonempty)
 
 -- a word is read, or written
-read_lowers : (t : Work) (m : Mapping) (k word : ℕ) → k < 128 → Lowers (stage.ReadWord m k) t (Word word)
+pub read_lowers : (t : Work) (m : Mapping) (k word : ℕ) → k < 128 → Lowers (stage.ReadWord m k) t (Word word)
 read_lowers t m k word placed = by_test (k == 127) refl
   where
     by_test : (b : Bool) → (k == 127) ≡ b → left_of (record t { words = slice_set t.words k word; stage = if b then stage.DiskWrite m else stage.ReadWord m (k + 1) }) < left_at (stage.ReadWord m k) t
     by_test true e = omega arith
     by_test false e = omega arith
 
-write_lowers : (t : Work) (m : Mapping) (k : ℕ) → k < 128 → t.within ≤ last_of t.rest → Lowers (stage.WriteWord m k) t Done
+pub write_lowers : (t : Work) (m : Mapping) (k : ℕ) → k < 128 → t.within ≤ last_of t.rest → Lowers (stage.WriteWord m k) t Done
 write_lowers t m k placed within = by_test (k == 127) refl
   where
     by_test : (b : Bool) → (k == 127) ≡ b → left_of (if b then next_sector t m else record t { stage = stage.WriteWord m (k + 1) }) < left_at (stage.WriteWord m k) t
     by_test true e = omega (arith, next_left t m within)
     by_test false e = omega arith
 
-map_lowers : (rest : List Segment) (t : Work) (a : BackAnswer) → IsAnswer (map_ask rest t.writes) a → Lowers stage.Map t a
+pub map_lowers : (rest : List Segment) (t : Work) (a : BackAnswer) → IsAnswer (map_ask rest t.writes) a → Lowers stage.Map t a
 map_lowers [] t a ok = absurd ok
 map_lowers (s ∷ rest) t (Mapped m) ok = omega (arith, sector_left t m)
 map_lowers (s ∷ rest) t (MapRefused status) ok = omega arith

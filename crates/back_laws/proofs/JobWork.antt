@@ -27,11 +27,12 @@ use Rattle.report_rules.specs.declared.work.Task.{Task}
 use Rattle.report_rules.specs.declared.step.Step.{Step}
 use Rattle.report_rules.specs.Step.{steps_of}
 use Rattle.report_rules.specs.Work.{work_tasks, work_verdict, status_by, served_tasks, planned_tasks}
-use Rattle.back_laws.specs.Deed.{Asked}
+use Rattle.back_laws.specs.Activity.{Asked}
 use Rattle.back_laws.specs.Ledger.{told_all, AreItsAsks}
 use Rattle.back_laws.specs.JobSteps.{IsNext, left_by, is_failure, AreSteps, all_left_by, has_failed, words_read, DoesItsWork}
 use Rattle.back_laws.proofs.Jobs.{IsJob, step_job, begun_job}
-use Rattle.back_laws.proofs.JobSteps.{to_do, is_moving, goes, stores_steps, loads_steps, segments_to_do, done_to_do, flush_to_do, trim_to_do}
+use Rattle.back_laws.proofs.JobSteps.{to_do, is_moving, goes, segments_to_do, done_to_do, flush_to_do, trim_to_do}
+use Rattle.back_laws.proofs.SegmentSteps.{stores_steps, loads_steps}
 
 -- how a job stands after some answers: a failure ends it with an error, else it ends as its entry's verdict says
 abbrev pub EndsSo : JobStage → (failed : Bool) → Status → Type 0

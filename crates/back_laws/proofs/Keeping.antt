@@ -1,4 +1,4 @@
--- What is kept of a back's deeds: the requests that they fetched, with their jobs and their replies, one of which may be under way.
+-- What is kept of a back's activities: the requests that they fetched, with their jobs and their replies, one of which may be under way.
 use Rattle.std.proofs.Common.{◌≡◌, ℕ, ◌+◌, ◌%◌, ◌^◌, ◌<◌, Bool, true, false, List, [], ◌∷◌, ◌++◌, length, remove, refl, sym, ap, ◌∙◌, subst, arith, length-append}
 use Rattle.std.specs.Prelude.{Option, Some, None, slice_get, slice_set, ◌==◌, option_and_then, position, slice_index_or}
 use Rattle.std.specs.List.{filter_map}
@@ -17,7 +17,7 @@ use Rattle.back_jobs.specs.Work.{Work, ask_of, step_of, begun, IsAnswer}
 use Rattle.back_jobs.specs.Jobs.{asked, place_of, work_at, work_of, waits, told_at, removed_at, is_done, response_of}
 use Rattle.blk_back.specs.declared.stage.Reply.{Reply}
 use Rattle.blk_back.specs.Ask.{reply_of}
-use Rattle.back_laws.specs.Deed.{Asked, Deed, Fetches, Replies}
+use Rattle.back_laws.specs.Activity.{Asked, Activity, Fetches, Replies}
 use Rattle.back_laws.specs.Ledger.{JobAsked, asks_for, Request, begun_of, jobs_from, words_in, entries_in, reply_in, replies_in, AreSame, Ledger}
 use Rattle.back_laws.proofs.Ledger.{asks_other, jobs_push, served_push, number_low, jobs_told, Replied, jobs_replied}
 
@@ -25,12 +25,12 @@ pub record Requests (trace : List JobAsked) (info : DiskInfo) (abi : Abi) (works
   pub ledger : Ledger info abi trace entries replies works
   pub none : (k : ℕ) → length entries < k → asks_for k trace ≡ []
 
-pub record IsKept (trace : List JobAsked) (info : DiskInfo) (abi : Abi) (works : List Work) (fetched : ℕ) (under : List Reply) (deeds : List Deed) : Type 0 where
-  pub count : fetched ≡ length (entries_in deeds) % 2 ^ 64
-  pub requests : length (entries_in deeds) < 2 ^ 64 → Requests trace info abi works (entries_in deeds) (under ++ replies_in deeds)
+pub record IsKept (trace : List JobAsked) (info : DiskInfo) (abi : Abi) (works : List Work) (fetched : ℕ) (under : List Reply) (activities : List Activity) : Type 0 where
+  pub count : fetched ≡ length (entries_in activities) % 2 ^ 64
+  pub requests : length (entries_in activities) < 2 ^ 64 → Requests trace info abi works (entries_in activities) (under ++ replies_in activities)
 
-abbrev pub Keeps : List JobAsked → DiskInfo → Abi → List Work → ℕ → List Reply → List Deed → Type 0
-Keeps trace info abi works fetched under = λ (deeds : List Deed). IsKept trace info abi works fetched under deeds
+abbrev pub Keeps : List JobAsked → DiskInfo → Abi → List Work → ℕ → List Reply → List Activity → Type 0
+Keeps trace info abi works fetched under = λ (activities : List Activity). IsKept trace info abi works fetched under activities
 
 -- nothing was done yet
 pub keeps_none : (trace : List JobAsked) (info : DiskInfo) (abi : Abi) (works : List Work) (fetched : ℕ) → trace ≡ [] → works ≡ [] → fetched ≡ 0 → IsKept trace info abi works fetched [] []
@@ -42,39 +42,39 @@ keeps_none trace info abi works fetched quiet jobless first = record {
   };
 }
 
-entries_more : (deeds : List Deed) (d : Deed) → entries_in (deeds ++ d ∷ []) ≡ entries_in deeds ++ words_in d
+entries_more : (activities : List Activity) (d : Activity) → entries_in (activities ++ d ∷ []) ≡ entries_in activities ++ words_in d
 entries_more [] d = append-nil (words_in d)
-entries_more (x ∷ deeds) d = ap (λ (l : List (List ℕ)). words_in x ++ l) (entries_more deeds d) ∙ sym (append_assoc (words_in x) (entries_in deeds) (words_in d))
+entries_more (x ∷ activities) d = ap (λ (l : List (List ℕ)). words_in x ++ l) (entries_more activities d) ∙ sym (append_assoc (words_in x) (entries_in activities) (words_in d))
 
-replies_more : (deeds : List Deed) (d : Deed) → replies_in (deeds ++ d ∷ []) ≡ reply_in d ++ replies_in deeds
+replies_more : (activities : List Activity) (d : Activity) → replies_in (activities ++ d ∷ []) ≡ reply_in d ++ replies_in activities
 replies_more [] d = sym (append-nil (reply_in d))
-replies_more (x ∷ deeds) d = ap (λ (l : List Reply). l ++ reply_in x) (replies_more deeds d) ∙ append_assoc (reply_in d) (replies_in deeds) (reply_in x)
+replies_more (x ∷ activities) d = ap (λ (l : List Reply). l ++ reply_in x) (replies_more activities d) ∙ append_assoc (reply_in d) (replies_in activities) (reply_in x)
 
 -- the same entries and the same replies
-same_kept : (trace : List JobAsked) (info : DiskInfo) (abi : Abi) (works : List Work) (fetched : ℕ) (under now : List Reply) (deeds later : List Deed)
-    → entries_in later ≡ entries_in deeds → now ++ replies_in later ≡ under ++ replies_in deeds → IsKept trace info abi works fetched under deeds → IsKept trace info abi works fetched now later
-same_kept trace info abi works fetched under now deeds later entries replies k = record {
+same_kept : (trace : List JobAsked) (info : DiskInfo) (abi : Abi) (works : List Work) (fetched : ℕ) (under now : List Reply) (activities later : List Activity)
+    → entries_in later ≡ entries_in activities → now ++ replies_in later ≡ under ++ replies_in activities → IsKept trace info abi works fetched under activities → IsKept trace info abi works fetched now later
+same_kept trace info abi works fetched under now activities later entries replies k = record {
   count = k.count ∙ ap (λ (l : List (List ℕ)). length l % 2 ^ 64) (sym entries);
   requests = λ few.
       subst (λ (l : List (List ℕ)). Requests trace info abi works l (now ++ replies_in later)) (sym entries)
-      (subst (λ (l : List Reply). Requests trace info abi works (entries_in deeds) l) (sym replies)
+      (subst (λ (l : List Reply). Requests trace info abi works (entries_in activities) l) (sym replies)
       (k.requests (subst (λ (l : List (List ℕ)). length l < 2 ^ 64) entries few)));
 }
 
--- a deed that fetches nothing and replies to nothing
-pub still_kept : (trace : List JobAsked) (info : DiskInfo) (abi : Abi) (works : List Work) (fetched : ℕ) (d : Deed) → (words_in d ≡ []) × (reply_in d ≡ []) → (deeds : List Deed)
-    → IsKept trace info abi works fetched [] deeds → IsKept trace info abi works fetched [] (deeds ++ d ∷ [])
-still_kept trace info abi works fetched d none deeds k =
-    same_kept trace info abi works fetched [] [] deeds (deeds ++ d ∷ [])
-    (entries_more deeds d ∙ (ap (λ (l : List (List ℕ)). entries_in deeds ++ l) none.0 ∙ append-nil (entries_in deeds)))
-    (replies_more deeds d ∙ ap (λ (l : List Reply). l ++ replies_in deeds) none.1) k
+-- an activity that fetches nothing and replies to nothing
+pub still_kept : (trace : List JobAsked) (info : DiskInfo) (abi : Abi) (works : List Work) (fetched : ℕ) (d : Activity) → (words_in d ≡ []) × (reply_in d ≡ []) → (activities : List Activity)
+    → IsKept trace info abi works fetched [] activities → IsKept trace info abi works fetched [] (activities ++ d ∷ [])
+still_kept trace info abi works fetched d none activities k =
+    same_kept trace info abi works fetched [] [] activities (activities ++ d ∷ [])
+    (entries_more activities d ∙ (ap (λ (l : List (List ℕ)). entries_in activities ++ l) none.0 ∙ append-nil (entries_in activities)))
+    (replies_more activities d ∙ ap (λ (l : List Reply). l ++ replies_in activities) none.1) k
 
 -- a reply is under way no longer
-pub replied_kept : (trace : List JobAsked) (info : DiskInfo) (abi : Abi) (works : List Work) (fetched : ℕ) (reply : Reply) (event : ℕ) (deeds : List Deed)
-    → IsKept trace info abi works fetched (reply ∷ []) deeds → IsKept trace info abi works fetched [] (deeds ++ Replies reply event ∷ [])
-replied_kept trace info abi works fetched reply event deeds k =
-    same_kept trace info abi works fetched (reply ∷ []) [] deeds (deeds ++ Replies reply event ∷ [])
-    (entries_more deeds (Replies reply event) ∙ append-nil (entries_in deeds)) (replies_more deeds (Replies reply event)) k
+pub replied_kept : (trace : List JobAsked) (info : DiskInfo) (abi : Abi) (works : List Work) (fetched : ℕ) (reply : Reply) (event : ℕ) (activities : List Activity)
+    → IsKept trace info abi works fetched (reply ∷ []) activities → IsKept trace info abi works fetched [] (activities ++ Replies reply event ∷ [])
+replied_kept trace info abi works fetched reply event activities k =
+    same_kept trace info abi works fetched (reply ∷ []) [] activities (activities ++ Replies reply event ∷ [])
+    (entries_more activities (Replies reply event) ∙ append-nil (entries_in activities)) (replies_more activities (Replies reply event)) k
 
 -- as many requests as entries
 many : (info : DiskInfo) (abi : Abi) (trace : List JobAsked) (entries : List (List ℕ)) (replies : List Reply) (works : List Work) (l : Ledger info abi trace entries replies works) → length l.requests ≡ length entries
@@ -101,21 +101,21 @@ fetched_requests trace info abi works number entries replies words numbered r =
       none = λ k more. r.none k (omega (arith, longer, more));
     }
 
-pub fetched_kept : (trace : List JobAsked) (info : DiskInfo) (abi : Abi) (works : List Work) (fetched : ℕ) (words : List ℕ) (deeds : List Deed)
-    → IsKept trace info abi works fetched [] deeds
-    → IsKept trace info abi (works ++ begun ((fetched + 1) % 2 ^ 64) (request_of abi words) info.sectors (verdict_of (request_of abi words) info) ∷ []) ((fetched + 1) % 2 ^ 64) [] (deeds ++ Fetches words ∷ [])
-fetched_kept trace info abi works fetched words deeds k =
-    let entries : List (List ℕ) = entries_in deeds in
-    let more : entries_in (deeds ++ Fetches words ∷ []) ≡ entries ++ words ∷ [] = entries_more deeds (Fetches words) in
-    let size : length (entries_in (deeds ++ Fetches words ∷ [])) ≡ length entries + 1 = ap (λ (l : List (List ℕ)). length l) more ∙ length-append entries (words ∷ []) in
+pub fetched_kept : (trace : List JobAsked) (info : DiskInfo) (abi : Abi) (works : List Work) (fetched : ℕ) (words : List ℕ) (activities : List Activity)
+    → IsKept trace info abi works fetched [] activities
+    → IsKept trace info abi (works ++ begun ((fetched + 1) % 2 ^ 64) (request_of abi words) info.sectors (verdict_of (request_of abi words) info) ∷ []) ((fetched + 1) % 2 ^ 64) [] (activities ++ Fetches words ∷ [])
+fetched_kept trace info abi works fetched words activities k =
+    let entries : List (List ℕ) = entries_in activities in
+    let more : entries_in (activities ++ Fetches words ∷ []) ≡ entries ++ words ∷ [] = entries_more activities (Fetches words) in
+    let size : length (entries_in (activities ++ Fetches words ∷ [])) ≡ length entries + 1 = ap (λ (l : List (List ℕ)). length l) more ∙ length-append entries (words ∷ []) in
     let count : fetched ≡ length entries % 2 ^ 64 = k.count in
     let later : List Work = works ++ begun ((fetched + 1) % 2 ^ 64) (request_of abi words) info.sectors (verdict_of (request_of abi words) info) ∷ [] in
     record {
-      count = one_more fetched (length entries) (length (entries_in (deeds ++ Fetches words ∷ []))) count size;
+      count = one_more fetched (length entries) (length (entries_in (activities ++ Fetches words ∷ []))) count size;
       requests = λ few.
-          subst (λ (l : List (List ℕ)). Requests trace info abi later l (replies_in (deeds ++ Fetches words ∷ []))) (sym more)
-          (subst (λ (l : List Reply). Requests trace info abi later (entries ++ words ∷ []) l) (sym (replies_more deeds (Fetches words)))
-          (fetched_requests trace info abi works ((fetched + 1) % 2 ^ 64) entries (replies_in deeds) words (its_number fetched (length entries) (length (entries_in (deeds ++ Fetches words ∷ []))) count size few) (k.requests (omega (arith, size, few)))));
+          subst (λ (l : List (List ℕ)). Requests trace info abi later l (replies_in (activities ++ Fetches words ∷ []))) (sym more)
+          (subst (λ (l : List Reply). Requests trace info abi later (entries ++ words ∷ []) l) (sym (replies_more activities (Fetches words)))
+          (fetched_requests trace info abi works ((fetched + 1) % 2 ^ 64) entries (replies_in activities) words (its_number fetched (length entries) (length (entries_in (activities ++ Fetches words ∷ []))) count size few) (k.requests (omega (arith, size, few)))));
     }
   where
     one_more : (f n m : ℕ) → f ≡ n % 2 ^ 64 → m ≡ n + 1 → (f + 1) % 2 ^ 64 ≡ m % 2 ^ 64
@@ -125,9 +125,9 @@ fetched_kept trace info abi works fetched words deeds k =
     its_number f n m count size few = omega arith
 
 -- a reply is begun: its job is held no longer
-pub begun_kept : (trace : List JobAsked) (info : DiskInfo) (abi : Abi) (works : List Work) (fetched : ℕ) (reply : Reply) (place : ℕ) (t : Work) → slice_get works place ≡ Some t → reply_of (response_of t) ≡ Some reply → (deeds : List Deed)
-    → IsKept trace info abi works fetched [] deeds → IsKept trace info abi (remove works place) fetched (reply ∷ []) deeds
-begun_kept trace info abi works fetched reply place t found is deeds k = record {
+pub begun_kept : (trace : List JobAsked) (info : DiskInfo) (abi : Abi) (works : List Work) (fetched : ℕ) (reply : Reply) (place : ℕ) (t : Work) → slice_get works place ≡ Some t → reply_of (response_of t) ≡ Some reply → (activities : List Activity)
+    → IsKept trace info abi works fetched [] activities → IsKept trace info abi (remove works place) fetched (reply ∷ []) activities
+begun_kept trace info abi works fetched reply place t found is activities k = record {
   count = k.count;
   requests = λ few.
       let r = k.requests few in
@@ -139,7 +139,7 @@ begun_kept trace info abi works fetched reply place t found is deeds k = record 
           copied = m.words ∙ l.copied;
           held = ap (λ (ws : List Work). remove ws place) l.held ∙ sym m.jobs;
           served = m.served;
-          replied = (m.front, m.rest, m.now, subst (λ (rs : List Reply). AreSame (replies_in deeds) rs) m.before l.replied);
+          replied = (m.front, m.rest, m.now, subst (λ (rs : List Reply). AreSame (replies_in activities) rs) m.before l.replied);
         };
         none = r.none;
       };
@@ -147,9 +147,9 @@ begun_kept trace info abi works fetched reply place t found is deeds k = record 
 
 -- a job was told
 pub told_kept : (trace : List JobAsked) (info : DiskInfo) (abi : Abi) (works : List Work) (fetched : ℕ) (under : List Reply) (j : JobAsked) (place : ℕ) (t : Work)
-    → slice_get works place ≡ Some t → t.number ≡ j.number → (let a : Asked = j.asked in (a.ask ≡ ask_of t) × IsAnswer (ask_of t) a.answer) → (deeds : List Deed)
-    → IsKept trace info abi works fetched under deeds → (let a : Asked = j.asked in IsKept (trace ++ j ∷ []) info abi (slice_set works place (step_of t a.answer)) fetched under deeds)
-told_kept trace info abi works fetched under j place t found number ok deeds k = record {
+    → slice_get works place ≡ Some t → t.number ≡ j.number → (let a : Asked = j.asked in (a.ask ≡ ask_of t) × IsAnswer (ask_of t) a.answer) → (activities : List Activity)
+    → IsKept trace info abi works fetched under activities → (let a : Asked = j.asked in IsKept (trace ++ j ∷ []) info abi (slice_set works place (step_of t a.answer)) fetched under activities)
+told_kept trace info abi works fetched under j place t found number ok activities k = record {
   count = k.count;
   requests = λ few.
       let r = k.requests few in
@@ -157,7 +157,7 @@ told_kept trace info abi works fetched under j place t found number ok deeds k =
       let here : slice_get (jobs_from info abi trace 1 l.requests) place ≡ Some t = subst (λ (ws : List Work). slice_get ws place ≡ Some t) l.held found in
       let m = jobs_told info abi trace j 1 l.requests place t here number ok l.served in
       let low = (number_low info abi trace 1 l.requests place t here).1 in
-      let size = many info abi trace (entries_in deeds) (under ++ replies_in deeds) works l in
+      let size = many info abi trace (entries_in activities) (under ++ replies_in activities) works l in
       record {
         ledger = record {
           requests = l.requests;

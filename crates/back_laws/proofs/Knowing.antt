@@ -16,7 +16,7 @@ use Rattle.blk_back.specs.declared.stage.BackStage.TheVariants as stage
 use Rattle.blk_back.specs.View.{View}
 use Rattle.blk_back.specs.Ask.{ask_at, reply_ask, index_ask, next_reply, IsAnswer}
 use Rattle.blk_back.specs.Step.{at, abort, looked, step_at}
-use Rattle.back_laws.specs.Deed.{Asked, Reach, Rests, Replies, read, wrote, fenced, sent, page_at, asks_of, reached, IsRight}
+use Rattle.back_laws.specs.Activity.{Asked, Reach, Rests, Replies, read, wrote, fenced, sent, page_at, asks_of, reached, IsRight}
 use Rattle.segment_list.specs.declared.verdict.DiskInfo.{DiskInfo}
 use Rattle.blk_back.specs.View.{new_of}
 use Rattle.blk_back.specs.Ask.{ask_of, unmap_ask}
@@ -28,7 +28,7 @@ use Rattle.std.proofs.lemmas.List.Elements.{Contains-append_left, Contains-appen
 use Rattle.back_laws.specs.Ledger.{JobAsked}
 use Rattle.back_laws.specs.Life.{IsClosing, HasHalted, Cause, NotMapped, NotBound, Overran, CalledFirst, Called, IsCause}
 use Rattle.back_laws.proofs.Calls.{is_unbound, halts_for_cases, attaches_cases, attaches_waiting}
-use Rattle.back_laws.proofs.Deeds.{keeps, done, closing_more}
+use Rattle.back_laws.proofs.Activities.{keeps, done, closing_more}
 use Rattle.back_laws.proofs.Room.{HasRoom, IsRoomAt, room_at}
 use Rattle.back_laws.proofs.Lives.{here, before_push, IsOpened, three, pushed, IsPushed, At, KnowsAt, Knows}
 use Rattle.back_laws.proofs.Opening.{Asks, Leads, giving_knows, opened_wait, unbound_knows, bound_knows, binds, not_bound, not_mapped, maps}
@@ -189,8 +189,8 @@ job_knows start trace own calls v number given ok k = record { entries = k.entri
     at_told under r part a =
         let one = told_so.one in
         keeps start own v.shape v.pages v.halted r part (KeptOf trace v under) (KeptOf (trace ++ j ∷ []) w under)
-        (λ deeds kept. subst (λ (works : List Work). IsKept (trace ++ j ∷ []) v.jobs.info v.shape.abi works v.fetched under deeds) (sym one.after)
-        (told_kept trace v.jobs.info v.shape.abi v.jobs.works v.fetched under j one.place one.job one.found one.numbered (told_so.asks, one.allowed) deeds kept))
+        (λ activities kept. subst (λ (works : List Work). IsKept (trace ++ j ∷ []) v.jobs.info v.shape.abi works v.fetched under activities) (sym one.after)
+        (told_kept trace v.jobs.info v.shape.abi v.jobs.works v.fetched under j one.place one.job one.found one.numbered (told_so.asks, one.allowed) activities kept))
         a
 
     none : v.jobs.works ≡ [] → ⊥
@@ -238,9 +238,9 @@ attached_knows start trace own calls v shape grefs port k =
 more_calls : (start : ℕ) (shape : Shape) (calls others : List Halt) (c : Cause) → IsCause start shape calls c → IsCause start shape (calls ++ others) c
 more_calls start shape calls others (NotMapped opening gref status) is = is
 more_calls start shape calls others (NotBound opening port) is = is
-more_calls start shape calls others (Overran opening port deeds look shown) is = is
+more_calls start shape calls others (Overran opening port activities look shown) is = is
 more_calls start shape calls others (CalledFirst opening why) is = (is.0, Contains-append_left calls others why is.1, is.2)
-more_calls start shape calls others (Called opening port deeds why) is = (is.0, Contains-append_left calls others why is.1, is.2)
+more_calls start shape calls others (Called opening port activities why) is = (is.0, Contains-append_left calls others why is.1, is.2)
 
 halted_more : (start : ℕ) (shape : Shape) (own : List Asked) (calls others : List Halt) (halted : Option Halt) → HasHalted start shape own calls halted → HasHalted start shape own (calls ++ others) halted
 halted_more start shape own calls others halted h = record { cause = h.cause; closing = h.closing; is = more_calls start shape calls others h.cause h.is; closes = h.closes; asked = h.asked; why = h.why }
@@ -270,7 +270,7 @@ halts_knows start trace own calls v why k =
     record {
       entries = k.entries;
       at = giving_knows (first_mapping v.jobs.works) start trace own (calls ++ why ∷ []) (abort (record v { halted = Some why }))
-          (record { cause = Called a.opening a.port a.deeds why; closing = []; is = (a.is, last, may); closes = tt; asked = a.asked; why = refl });
+          (record { cause = Called a.opening a.port a.activities why; closing = []; is = (a.is, last, may); closes = tt; asked = a.asked; why = refl });
     })
     (called_knows start trace own calls (why ∷ []) v k)
   where

@@ -10,7 +10,7 @@ use Rattle.back_jobs.specs.Work.{Work, ask_of, step_of, IsAnswer}
 use Rattle.back_jobs.specs.Jobs.{response_of}
 use Rattle.blk_back.specs.declared.stage.Reply.{Reply}
 use Rattle.blk_back.specs.Ask.{reply_of}
-use Rattle.back_laws.specs.Deed.{Asked}
+use Rattle.back_laws.specs.Activity.{Asked}
 use Rattle.back_laws.specs.Ledger.{JobAsked, asks_for, told_all, AreItsAsks, Request, begun_of, job_of, with_job, jobs_from, IsReplyTo, AreServed}
 use Rattle.back_laws.proofs.Numbers.{job_number}
 

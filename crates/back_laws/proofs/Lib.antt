@@ -8,7 +8,7 @@ pub mod Narrow
 pub mod Numbers
 pub mod Ledger
 pub mod Keeping
-pub mod Deeds
+pub mod Activities
 pub mod Lives
 pub mod Opening
 pub mod Serving
@@ -17,6 +17,7 @@ pub mod Always
 pub mod Halted
 pub mod Found
 pub mod Refused
+pub mod SegmentSteps
 pub mod JobSteps
 pub mod PageWords
 pub mod PageSteps

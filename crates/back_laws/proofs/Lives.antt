@@ -10,12 +10,12 @@ use Rattle.blk_back.specs.declared.stage.Reply.{Reply}
 use Rattle.blk_back.specs.declared.stage.BackStage.{BackStage}
 use Rattle.blk_back.specs.declared.stage.BackStage.TheVariants as stage
 use Rattle.blk_back.specs.View.{View}
-use Rattle.back_laws.specs.Deed.{Asked, Reach, entry_from, read, wrote, fenced, page_at, replied_word}
+use Rattle.back_laws.specs.Activity.{Asked, Reach, entry_from, read, wrote, fenced, page_at, replied_word}
 use Rattle.back_laws.specs.Life.{IsOpening, mapped_in, HasHalted}
 use Rattle.back_laws.specs.Ledger.{JobAsked}
 use Rattle.back_laws.proofs.Keeping.{Keeps}
 use Rattle.back_jobs.specs.Work.{Work}
-use Rattle.back_laws.proofs.Deeds.{IsAt}
+use Rattle.back_laws.proofs.Activities.{IsAt}
 
 -- where the back stands
 abbrev pub here : View → Reach

@@ -15,7 +15,7 @@ use Rattle.segment_list.specs.Verdict.{verdict_of}
 use Rattle.back_jobs.specs.declared.stage.JobStage.{JobStage}
 use Rattle.back_jobs.specs.declared.stage.JobStage.TheVariants as stage
 use Rattle.back_jobs.specs.Work.{Work, step_at, step_of, begun, served, moving, next_segment, rest_of, passes, last_of, next_sector, judged}
-use Rattle.back_laws.specs.Deed.{Asked}
+use Rattle.back_laws.specs.Activity.{Asked}
 use Rattle.back_laws.specs.Ledger.{JobAsked, Request, told_all, asks_for, begun_of, job_of}
 
 either : (b : Bool) (x y : Work) (n : ℕ) → x.number ≡ n → y.number ≡ n → (if b then x else y).number ≡ n

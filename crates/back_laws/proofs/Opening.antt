@@ -14,12 +14,12 @@ use Rattle.blk_back.specs.declared.stage.BackStage.TheVariants as stage
 use Rattle.blk_back.specs.View.{View}
 use Rattle.blk_back.specs.Ask.{ask_at, next_gref}
 use Rattle.blk_back.specs.Step.{at, unmapping_next, unbound, bound, mapped, fetched}
-use Rattle.back_laws.specs.Deed.{Asked, Reach}
+use Rattle.back_laws.specs.Activity.{Asked, Reach}
 use Rattle.back_laws.specs.Ledger.{JobAsked}
 use Rattle.back_laws.specs.Life.{IsOpening, mapped_in, mapped_by, HasHalted, NotMapped, NotBound}
 use Rattle.back_jobs.specs.Work.{Work}
 use Rattle.back_laws.proofs.Keeping.{keeps_none}
-use Rattle.back_laws.proofs.Deeds.{all_push, mapped_more}
+use Rattle.back_laws.proofs.Activities.{all_push, mapped_more}
 use Rattle.back_laws.proofs.Lives.{here, IsOpened, KnowsAt, Knows}
 
 abbrev pub Asks : BackAsk → BackAnswer → Asked
@@ -81,7 +81,7 @@ binds start trace own calls v entries all o = record {
   at = record {
     opening = own;
     port = v.ring.port;
-    deeds = [];
+    activities = [];
     is = record { opens = o.opens; whole = sym (ap (λ (l : List Mapping). length l) o.pages) ∙ all; right = tt };
     mapped = o.pages;
     reach = same_reach v.shape v.pages (mapped_in own) v.ring.indices.prod v.ring.indices.cons v.ring.seen start o.pages o.prod o.cons o.seen;

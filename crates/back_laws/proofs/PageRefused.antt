@@ -19,7 +19,7 @@ use Rattle.report_rules.specs.declared.step.Step.{Step}
 use Rattle.report_rules.specs.declared.step.Step.TheVariants as steps
 use Rattle.report_rules.specs.Step.{steps_of}
 use Rattle.report_rules.specs.Work.{pages_of, served_tasks, are_read, indirect_tasks, work_tasks}
-use Rattle.back_laws.specs.Deed.{Asked, read}
+use Rattle.back_laws.specs.Activity.{Asked, read}
 use Rattle.back_laws.specs.JobSteps.{IsNext, left_by, is_failure, AreSteps, words_read, map_made, disk_read, disk_write}
 
 -- a step of a page

@@ -34,11 +34,12 @@ use Rattle.report_rules.specs.declared.step.Step.{Step}
 use Rattle.report_rules.specs.Step.{steps_of, steps_in}
 use Rattle.report_rules.specs.Work.{pages_of, status_by, served_tasks, planned_tasks, are_read, indirect_tasks, settled}
 use Rattle.report_rules.proofs.Copied.{no_segments}
-use Rattle.back_laws.specs.Deed.{Asked}
+use Rattle.back_laws.specs.Activity.{Asked}
 use Rattle.back_laws.specs.Ledger.{JobAsked, asks_for, told_all, AreItsAsks, Request, AreServed}
 use Rattle.back_laws.specs.JobSteps.{IsNext, left_by, is_failure, AreSteps, all_left_by, has_failed, words_read, word_given, JobsDoTheirWork, AllDoTheirWork, RequestsAreWorked, RepliesComeLast}
 use Rattle.back_laws.proofs.Jobs.{IsJob, step_job, begun_job}
-use Rattle.back_laws.proofs.JobSteps.{to_do, others, stores_steps, loads_steps, segments_to_do, done_to_do}
+use Rattle.back_laws.proofs.JobSteps.{to_do, segments_to_do, done_to_do}
+use Rattle.back_laws.proofs.SegmentSteps.{others, stores_steps, loads_steps}
 use Rattle.back_laws.proofs.JobWork.{EndsSo, works, whole_work}
 use Rattle.back_laws.proofs.PageWords.{AreRead, all_read}
 use Rattle.back_laws.proofs.PageSteps.{to_copy_at, CopiesAt, IsSame, Leaves, copies, refused, is_last, copies_on, Judges, judges}

@@ -13,7 +13,7 @@ use Rattle.segment_list.specs.declared.verdict.DiskInfo.{DiskInfo}
 use Rattle.back_jobs.specs.Work.{Work}
 use Rattle.blk_base.specs.declared.halt.Halt.{Halt}
 use Rattle.blk_back.specs.declared.stage.Reply.{Reply}
-use Rattle.back_laws.specs.Deed.{Asked, Reach, Deed, Waits, Looks, Rests, Fetches, Replies, read, slot_page, slot_word, entry_from, asks_of, indices, IsRight, IsBegun}
+use Rattle.back_laws.specs.Activity.{Asked, Reach, Activity, Waits, Looks, Rests, Fetches, Replies, read, slot_page, slot_word, entry_from, asks_of, indices, IsRight, IsBegun}
 use Rattle.back_laws.specs.Ledger.{JobAsked, Request, Ledger, AreSame}
 use Rattle.std.specs.Prelude.{ℤ, length}
 use Rattle.blk_base.specs.declared.parts.Mapping.{Mapping}
@@ -46,7 +46,7 @@ second_word (a ∷ b ∷ asked) = word_in b.ask
 
 -- a word of an entry is read twice
 pub read_twice : (r : Reach) (word again : ℕ) → IsBegun r (read (slot_page r r.cons 0) (slot_word r r.cons 0) word ∷ read (slot_page r r.cons 0) (slot_word r r.cons 0) again ∷ []) → ⊥
-read_twice r word again b = by_deed b.deed b.first
+read_twice r word again b = by_activity b.activity b.first
   where
     a : Asked
     a = read (slot_page r r.cons 0) (slot_word r r.cons 0) word
@@ -59,12 +59,12 @@ read_twice r word again b = by_deed b.deed b.first
     by_words (w ∷ []) same = cc
     by_words (w ∷ v ∷ words) same = next_place (ring_word_of r.shape r.cons (0 + 1)) (ring_word_of r.shape r.cons 0) (omega arith) (ap second_word same)
 
-    by_deed : (d : Deed) → asks_of r d ≡ a ∷ c ∷ b.rest → ⊥
-    by_deed (Waits given) same = cc
-    by_deed (Looks produced) same = cc
-    by_deed (Rests produced) same = let no = ap first_read same in cc
-    by_deed (Fetches words) same = by_words words same
-    by_deed (Replies reply event) same = let no = ap first_read same in cc
+    by_activity : (d : Activity) → asks_of r d ≡ a ∷ c ∷ b.rest → ⊥
+    by_activity (Waits given) same = cc
+    by_activity (Looks produced) same = cc
+    by_activity (Rests produced) same = let no = ap first_read same in cc
+    by_activity (Fetches words) same = by_words words same
+    by_activity (Replies reply event) same = let no = ap first_read same in cc
 
 -- an entry is fetched that no producer showed
 pub unshown : (r : Reach) (words : List ℕ) → r.cons < 2 ^ 32 → r.seen ≡ r.cons → IsRight r (Fetches words) → ⊥
@@ -95,9 +95,9 @@ uncaused start shape why h = by_cause h.cause h.is h.asked
     by_cause : (c : Cause) → IsCause start shape [] c → [] ≡ asked_before start shape c ++ h.closing → ⊥
     by_cause (NotMapped opening gref status) is same = not_first opening _ [] h.closing same
     by_cause (NotBound opening port) is same = not_first opening _ [] h.closing same
-    by_cause (Overran opening port deeds look shown) is same = not_second opening _ _ _ h.closing same
+    by_cause (Overran opening port activities look shown) is same = not_second opening _ _ _ h.closing same
     by_cause (CalledFirst opening called) is same = let none = is.1.1 in omega arith
-    by_cause (Called opening port deeds called) is same = let none = is.1.1 in omega arith
+    by_cause (Called opening port activities called) is same = let none = is.1.1 in omega arith
 
 -- a reply to no request, and two to one
 nothing_first : (xs : List Reply) (x : Reply) (ys : List Reply) → [] ≡ xs ++ x ∷ ys → ⊥

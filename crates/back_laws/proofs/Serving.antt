@@ -14,26 +14,26 @@ use Rattle.blk_back.specs.declared.stage.BackStage.TheVariants as stage
 use Rattle.blk_back.specs.View.{View}
 use Rattle.blk_back.specs.Ask.{loop_ask, reply_ask, index_ask, entry_ask, next_reply, IsAnswer}
 use Rattle.blk_back.specs.Step.{overrun, looked, loop_step, fetched, fetch_step}
-use Rattle.back_laws.specs.Deed.{Asked, Reach, Deed, Waits, Looks, Fetches, entry_from, read, slot_page, slot_word, asks_of, reached, indices, IsRight, IsOverrun}
+use Rattle.back_laws.specs.Activity.{Asked, Reach, Activity, Waits, Looks, Fetches, entry_from, read, slot_page, slot_word, asks_of, reached, indices, IsRight, IsOverrun}
 use Rattle.blk_back.proofs.Slots.{response_fits}
 use Rattle.back_laws.specs.Ledger.{JobAsked}
 use Rattle.std.proofs.Common.{remove}
 use Rattle.back_jobs.specs.Work.{Work}
 use Rattle.back_laws.specs.Ledger.{words_in, reply_in}
 use Rattle.back_laws.proofs.Keeping.{Keeps, still_kept, fetched_kept, begun_kept, IsLowest, lowest_one}
-use Rattle.back_laws.proofs.Deeds.{IsAt, entry_more, more, keeps, done, overran}
+use Rattle.back_laws.proofs.Activities.{IsAt, entry_more, more, keeps, done, overran}
 use Rattle.back_laws.proofs.Lives.{here, IsCopying, At, Knows}
 use Rattle.back_laws.proofs.Opening.{Asks, Leads, giving_knows}
 
--- what is kept of the deeds
-abbrev pub KeptOf : List JobAsked → View → List Reply → List Deed → Type 0
+-- what is kept of the activities
+abbrev pub KeptOf : List JobAsked → View → List Reply → List Activity → Type 0
 KeptOf trace v under = Keeps trace v.jobs.info v.shape.abi v.jobs.works v.fetched under
 
--- one ask more, or the deed is done
+-- one ask more, or the activity is done
 pub grows : (start : ℕ) (trace : List JobAsked) (own : List Asked) (v : View) (under : List Reply) (r : Reach) (part : List Asked) (x : Asked) → At start trace own v under r part → At start trace (own ++ x ∷ []) v under r (part ++ x ∷ [])
 grows start trace own v under r part x a = more start own v.shape v.pages v.halted r part (KeptOf trace v under) x a
 
-pub ends : (start : ℕ) (trace : List JobAsked) (own : List Asked) (v : View) (r : Reach) (part : List Asked) (d : Deed) → (words_in d ≡ []) × (reply_in d ≡ []) → IsRight r d → asks_of r d ≡ part → At start trace own v [] r part → At start trace own v [] (reached r d) []
+pub ends : (start : ℕ) (trace : List JobAsked) (own : List Asked) (v : View) (r : Reach) (part : List Asked) (d : Activity) → (words_in d ≡ []) × (reply_in d ≡ []) → IsRight r d → asks_of r d ≡ part → At start trace own v [] r part → At start trace own v [] (reached r d) []
 ends start trace own v r part d still right same a =
     done start own v.shape v.pages v.halted r part (KeptOf trace v []) (KeptOf trace v []) d (still_kept trace v.jobs.info v.shape.abi v.jobs.works v.fetched d still) right same a
 
@@ -41,8 +41,8 @@ ends start trace own v r part d still right same a =
 pub indices_are : (v : View) → v.ring.indices.entries ≡ entries_of v.shape.order → v.ring.indices ≡ indices (here v)
 indices_are v e = ap (λ (n : ℕ). let i : Ring = record { entries = n; prod = v.ring.indices.prod; cons = v.ring.indices.cons } in i) e
 
--- the producer was read by this deed, the look or the one before sleep
-pub looked_knows : (start : ℕ) (trace : List JobAsked) (own : List Asked) (calls : List Halt) (v : View) (word : ℕ) (part : List Asked) (d : Deed) (otherwise : View)
+-- the producer was read by this activity, the look or the one before sleep
+pub looked_knows : (start : ℕ) (trace : List JobAsked) (own : List Asked) (calls : List Halt) (v : View) (word : ℕ) (part : List Asked) (d : Activity) (otherwise : View)
     → v.ring.indices.entries ≡ entries_of v.shape.order
     → asks_of (here v) d ≡ part
     → (overruns (indices (here v)) word ≡ true → IsOverrun (here v) d word)

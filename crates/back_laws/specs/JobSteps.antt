@@ -18,7 +18,7 @@ use Rattle.report_rules.specs.declared.step.Step.{Step}
 use Rattle.report_rules.specs.declared.step.Step.TheVariants as steps
 use Rattle.report_rules.specs.Step.{steps_of}
 use Rattle.report_rules.specs.Work.{work_tasks, work_verdict, status_by}
-use Rattle.back_laws.specs.Deed.{Asked}
+use Rattle.back_laws.specs.Activity.{Asked}
 use Rattle.blk_base.specs.declared.operation.Abi.{Abi}
 use Rattle.blk_layout.specs.Entry.{request_of}
 use Rattle.back_jobs.specs.Jobs.{response_of}

@@ -11,7 +11,7 @@ use Rattle.blk_back.specs.Hands.{hands_of}
 use Rattle.back_laws.specs.BackLeft.{left_of, gained, IsShown}
 use Rattle.back_laws.specs.Happening.{Happening, Answers, AnswersJob, happened, MayHappen, after, AllMayHappen}
 use Rattle.back_laws.specs.Run.{BackRun, begins, now}
-use Rattle.back_laws.specs.Deed.{Asked}
+use Rattle.back_laws.specs.Activity.{Asked}
 use Rattle.back_laws.specs.Ledger.{job_asks}
 use Rattle.back_laws.specs.Life.{own_asks, called, Goes, HasHalted}
 

@@ -12,7 +12,7 @@ use Rattle.blk_back.specs.View.{View}
 use Rattle.blk_back.specs.Ask.{reply_of}
 use Rattle.blk_back.specs.Step.{job_ask_of}
 use Rattle.back_laws.specs.Happening.{Happening, AnswersJob, happened}
-use Rattle.back_laws.specs.Deed.{Asked, Deed, Fetches, Replies}
+use Rattle.back_laws.specs.Activity.{Asked, Activity, Fetches, Replies}
 
 -- what the job of a number asked, with its answer; all of it in a run, in its order; and that of one number
 pub record JobAsked : Type 0 where
@@ -72,22 +72,22 @@ AreServed info abi trace k [] = Unit {0}
 AreServed info abi trace k (q ∷ requests) =
     AreItsAsks (begun_of info abi k q) (asks_for k trace) × IsReplyTo q.reply (job_of info abi trace k q) × AreServed info abi trace (k + 1) requests
 
--- the entries that these deeds fetched, in their order; and their replies, the last one first
-abbrev pub words_in : Deed → List (List ℕ)
+-- the entries that these activities fetched, in their order; and their replies, the last one first
+abbrev pub words_in : Activity → List (List ℕ)
 words_in (Fetches words) = words ∷ []
-words_in deed = []
+words_in activity = []
 
-abbrev pub entries_in : List Deed → List (List ℕ)
+abbrev pub entries_in : List Activity → List (List ℕ)
 entries_in [] = []
-entries_in (deed ∷ deeds) = words_in deed ++ entries_in deeds
+entries_in (activity ∷ activities) = words_in activity ++ entries_in activities
 
-abbrev pub reply_in : Deed → List Reply
+abbrev pub reply_in : Activity → List Reply
 reply_in (Replies reply event) = reply ∷ []
-reply_in deed = []
+reply_in activity = []
 
-abbrev pub replies_in : List Deed → List Reply
+abbrev pub replies_in : List Activity → List Reply
 replies_in [] = []
-replies_in (deed ∷ deeds) = replies_in deeds ++ reply_in deed
+replies_in (activity ∷ activities) = replies_in activities ++ reply_in activity
 
 -- these are the same replies, in any order, each as often
 abbrev pub AreSame : List Reply → List Reply → Type 0

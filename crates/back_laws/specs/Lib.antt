@@ -2,7 +2,7 @@ pub mod JobLeft
 pub mod BackLeft
 pub mod Happening
 pub mod Run
-pub mod Deed
+pub mod Activity
 pub mod Ledger
 pub mod Life
 pub mod Laws

@@ -27,7 +27,7 @@ ghost use Rattle.ring_words.specs.Shape.{Shape};
 ghost use Rattle.segment_list.specs.declared.verdict.DiskInfo.{DiskInfo};
 ghost use Rattle.blk_base.specs.declared.halt.Halt.{Halt};
 ghost use Rattle.blk_back.specs.declared.stage.Reply.{Reply};
-ghost use Rattle.back_laws.specs.Deed.{Asked, Reach, Looks, Fetches, read, slot_page, slot_word, indices, IsRight, IsBegun};
+ghost use Rattle.back_laws.specs.Activity.{Asked, Reach, Looks, Fetches, read, slot_page, slot_word, indices, IsRight, IsBegun};
 ghost use Rattle.back_laws.specs.Ledger.{JobAsked, Ledger};
 ghost use Rattle.back_laws.specs.Life.{HasHalted, IsClosing};
 ghost use Rattle.back_laws.specs.JobSteps.{JobsDoTheirWork, RequestsAreWorked, RepliesComeLast, AreSteps, words_read, map_refused, map_made, disk_read, disk_write};
@@ -43,7 +43,7 @@ ghost use Rattle.back_laws.specs.Run.{BackRun};
 ghost use Rattle.back_laws.specs.Laws.{LivesSo, StaysHalted, NoJobGoesOn, HoldsFewJobs, NamesWhatItHolds, JobsNameWhatIsHeld, HoldsWhatItWasGiven, EachAnswerLowers};
 
 /// All that the back itself asks is one life: it maps its ring's pages and binds its port, then does one
-/// deed after another, and after a halt only unmaps, closes its port and waits. Its reads of ring words
+/// activity after another, and after a halt only unmaps, closes its port and waits. Its reads of ring words
 /// are those of the shared words and of entries: each entry is copied whole, in the order of indices,
 /// each word once and ascending, after a producer that showed it; each response is written in the slot
 /// of the next index, and pushed. It halts for an overrun exactly where a read of the producer shows it

@@ -96,7 +96,7 @@ leaves_at stage.Initialised s v made i = record { agree = i.agree; sized = i.siz
 leaves_at stage.Loop s v made i = record { agree = i.agree; sized = i.sized; at = (pow_pos v.shape.order, i.at) }
 leaves_at t s v made i = absurd (false≢true made)
 
-unmade_open : (t : FrontStage) → is_unmade t ≡ true → is_open t ≡ true
+pub unmade_open : (t : FrontStage) → is_unmade t ≡ true → is_open t ≡ true
 unmade_open (stage.RingWord k) unmade = refl
 unmade_open t unmade = absurd (false≢true unmade)
 

@@ -19,14 +19,14 @@ use Rattle.front_laws.proofs.Issued.{data_lowers, page_lowers, grant_lowers, slo
 use Rattle.front_laws.proofs.Lowers.{Lowers, no_distance, looked_left, still_lowers, loop_lowers, last_lowers, data_left, left_left}
 
 -- the ring is made
-word_lowers : (v : View) (k : ℕ) → k < 16 → left_of (at (if k == 15 then stage.RingFrame 0 else stage.RingWord (k + 1)) v) < left_at (stage.RingWord k) v
+pub word_lowers : (v : View) (k : ℕ) → k < 16 → left_of (at (if k == 15 then stage.RingFrame 0 else stage.RingWord (k + 1)) v) < left_at (stage.RingWord k) v
 word_lowers v k few = by_last (k == 15) refl
   where
     by_last : (b : Bool) → (k == 15) ≡ b → left_of (at (if b then stage.RingFrame 0 else stage.RingWord (k + 1)) v) < left_at (stage.RingWord k) v
     by_last true e = omega (arith, few)
     by_last false e = omega (arith, few)
 
-frame_lowers : (v : View) (page : ℕ) → page < 2 ^ v.shape.order → left_of (at (ring_granted v page) v) < left_at (stage.RingFlags page) v
+pub frame_lowers : (v : View) (page : ℕ) → page < 2 ^ v.shape.order → left_of (at (ring_granted v page) v) < left_at (stage.RingFlags page) v
 frame_lowers v page few = by_last (nat_lt (page + 1) (2 ^ v.shape.order)) refl
   where
     by_last : (b : Bool) → nat_lt (page + 1) (2 ^ v.shape.order) ≡ b → left_of (at (if b then stage.RingFrame (page + 1) else stage.NewPort) v) < left_at (stage.RingFlags page) v
@@ -34,14 +34,14 @@ frame_lowers v page few = by_last (nat_lt (page + 1) (2 ^ v.shape.order)) refl
     by_last false e = omega (arith, few)
 
 -- it is left
-leave_lowers : (v : View) (page word : ℕ) → page < 2 ^ v.shape.order → left_of (ring_read v page word) < left_at (stage.RingRead page) v
+pub leave_lowers : (v : View) (page word : ℕ) → page < 2 ^ v.shape.order → left_of (ring_read v page word) < left_at (stage.RingRead page) v
 leave_lowers v page word few = by_mapped (is_mapped word)
   where
     by_mapped : (b : Bool) → left_of (if b then broken word v else at (stage.RingEnd page word) v) < left_at (stage.RingRead page) v
     by_mapped true = omega (arith, few)
     by_mapped false = omega (arith, few)
 
-end_lowers : (v : View) (page before word : ℕ) → page < 2 ^ v.shape.order → left_of (ring_ended v page before word) < left_at (stage.RingEnd page before) v
+pub end_lowers : (v : View) (page before word : ℕ) → page < 2 ^ v.shape.order → left_of (ring_ended v page before word) < left_at (stage.RingEnd page before) v
 end_lowers v page before word few = by_same (word == before)
   where
     by_last : (b : Bool) → nat_lt (page + 1) (2 ^ v.shape.order) ≡ b → left_of (at (if b then stage.RingRead (page + 1) else stage.ClosePort) v) < left_at (stage.RingEnd page before) v
@@ -52,7 +52,7 @@ end_lowers v page before word few = by_same (word == before)
     by_same true = by_last (nat_lt (page + 1) (2 ^ v.shape.order)) refl
     by_same false = omega (arith, few)
 
-event_lowers : (v : View) (old event : ℕ) → left_of (at (if notifies old v.ring.indices.prod event then stage.Send else stage.Loop) v) < left_at (stage.RequestEvent old) v
+pub event_lowers : (v : View) (old event : ℕ) → left_of (at (if notifies old v.ring.indices.prod event then stage.Send else stage.Loop) v) < left_at (stage.RequestEvent old) v
 event_lowers v old event = by_test (notifies old v.ring.indices.prod event)
   where
     by_test : (b : Bool) → left_of (at (if b then stage.Send else stage.Loop) v) < left_at (stage.RequestEvent old) v
@@ -60,19 +60,19 @@ event_lowers v old event = by_test (notifies old v.ring.indices.prod event)
     by_test false = omega arith
 
 -- the frame of this place is named, and the fence is past
-name_lowers : (v : View) (place : ℕ) (i : IsAtWord (next_request v) (λ r. length r.frames.items) place) → left_of (at (stage.GrantFence place) v) < left_at (stage.GrantFrame place) v
+pub name_lowers : (v : View) (place : ℕ) (i : IsAtWord (next_request v) (λ r. length r.frames.items) place) → left_of (at (stage.GrantFence place) v) < left_at (stage.GrantFrame place) v
 name_lowers v place i = rw i.next_is (omega (arith, i.within))
 
-fence_lowers : (v : View) (place : ℕ) (i : IsAtWord (next_request v) (λ r. length r.frames.items) place) → left_of (at (stage.GrantFlags place) v) < left_at (stage.GrantFence place) v
+pub fence_lowers : (v : View) (place : ℕ) (i : IsAtWord (next_request v) (λ r. length r.frames.items) place) → left_of (at (stage.GrantFlags place) v) < left_at (stage.GrantFence place) v
 fence_lowers v place i = rw i.next_is (omega (arith, i.within))
 
-read_lowers : (v : View) (n word : ℕ) (i : IsAtEnding v.ending words_in n) → left_of (data_step v.ending n word v) < left_at (stage.ReadData n) v
+pub read_lowers : (v : View) (n word : ℕ) (i : IsAtEnding v.ending words_in n) → left_of (data_step v.ending n word v) < left_at (stage.ReadData n) v
 read_lowers v n word i =
     let price : left_at (stage.ReadData n) v ≡ (words_in i.e.request - n) + rest_after 0 v = ap (λ (o : Option Ending). of_ending o (λ r. words_in r - n) + rest_after 0 v) i.ending_is in
     let same : left_of (data_step v.ending n word v) ≡ left_of (data_step (Some i.e) n word v) = ap (λ (o : Option Ending). left_of (data_step o n word v)) i.ending_is in
     omega (arith, price, same, data_left v i.e n word i.ending_is i.within)
 
-left_lowers : (v : View) (n word : ℕ) (i : IsAtEnding v.ending words_in n) → left_of (left_step v.ending n word v) < left_at (stage.LeftData n) v
+pub left_lowers : (v : View) (n word : ℕ) (i : IsAtEnding v.ending words_in n) → left_of (left_step v.ending n word v) < left_at (stage.LeftData n) v
 left_lowers v n word i =
     let price : left_at (stage.LeftData n) v ≡ (words_in i.e.request - n) + 16 + 3 * 2 ^ v.shape.order + 1 + rest_after 0 v = ap (λ (o : Option Ending). of_ending o (λ r. words_in r - n) + 16 + 3 * 2 ^ v.shape.order + 1 + rest_after 0 v) i.ending_is in
     let same : left_of (left_step v.ending n word v) ≡ left_of (left_step (Some i.e) n word v) = ap (λ (o : Option Ending). left_of (left_step o n word v)) i.ending_is in

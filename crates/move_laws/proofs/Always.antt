@@ -8,12 +8,13 @@ use Rattle.split_model.specs.Happening.{Happening, FrontMoves, BackMoves, JobMov
 use Rattle.blk_front.proofs.Shapes.{few_pages}
 use Rattle.blk_base.specs.declared.halt.Halt.TheVariants as halt
 use Rattle.blk_back.specs.View as back
+use Rattle.blk_back.specs.Step.{step_of, job_step}
 use Rattle.split_model.proofs.Attaching.{attach_cases}
 use Rattle.split_model.proofs.Suspending.{suspend_cases, begun_back, back_cases}
 use Rattle.split_model.proofs.SafeAnswers.{back_answered, job_answered}
 use Rattle.move_laws.specs.Permitted.{IsPermitted, ArePermitted}
 use Rattle.move_laws.proofs.Front.{IsFront, front_start, front_step, front_entered, front_submit, front_suspended, front_within}
-use Rattle.move_laws.proofs.Back.{IsBack, back_new, back_start, back_step, back_attached, back_halted, job_step_kept, back_names, job_names_own}
+use Rattle.back_laws.proofs.Held.{IsBack, back_new, back_start, back_step, back_attached, back_halted, job_step_kept, back_names, job_names_own}
 
 -- both ends are as they should be
 pub record IsOrderly (w : World) : Type 0 where
@@ -31,9 +32,13 @@ beside_front : (w : World) (act : Option FrontAct) → IsBack w.back → (let x 
 beside_front w None is = is
 beside_front w (Some a) is = is
 
+-- a back whose request for a move has been told is as it was
+untold : (v : back.View) → IsBack v → IsBack (record v { told = None })
+untold v is = record { fetched = is.fetched; mapped = is.mapped; writable = is.writable; jobs = is.jobs }
+
 back_after_move : (w : World) (o : Outcome) (act : Option BackAct) → IsBack w.back → back_turn w o ≡ act → (let x : World = back_after w act in IsBack x.back)
 back_after_move w o None is e = is
-back_after_move w o (Some a) is e = back_step w.back a.answer (back_answered w.under w.back o a e) is
+back_after_move w o (Some a) is e = untold (step_of w.back a.answer) (back_step w.back a.answer (back_answered w.under w.back o a e) is)
 
 beside_back : (w : World) (act : Option BackAct) → IsFront w.front → (let x : World = back_after w act in IsFront x.front)
 beside_back w None is = is
@@ -41,7 +46,7 @@ beside_back w (Some a) is = is
 
 back_after_job : (w : World) (k : ℕ) (o : Outcome) (act : Option BackAct) → IsBack w.back → job_turn w k o ≡ act → (let x : World = job_after w k act in IsBack x.back)
 back_after_job w k o None is e = is
-back_after_job w k o (Some a) is e = job_step_kept w.back k a.answer (job_answered w.under w.back k o a e) is
+back_after_job w k o (Some a) is e = untold (job_step w.back k a.answer) (job_step_kept w.back k a.answer (job_answered w.under w.back k o a e) is)
 
 beside_job : (w : World) (k : ℕ) (act : Option BackAct) → IsFront w.front → (let x : World = job_after w k act in IsFront x.front)
 beside_job w k None is = is

@@ -6,8 +6,6 @@ pub mod Still
 pub mod Entries
 pub mod Acts
 pub mod Front
-pub mod Jobs
-pub mod Back
 pub mod Always
 pub mod Runs
 pub mod Recorded

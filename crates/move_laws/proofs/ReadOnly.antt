@@ -42,8 +42,8 @@ use Rattle.split_model.specs.Happening.{Happening, FrontMoves, BackMoves, JobMov
 use Rattle.split_model.proofs.States.{halts_cases}
 use Rattle.split_model.proofs.Attaching.{attach_cases}
 use Rattle.split_model.proofs.Suspending.{suspend_cases, begun_back, back_cases}
-use Rattle.move_laws.proofs.Jobs.{IsJob, IsPlaced}
-use Rattle.move_laws.proofs.Back.{IsBack, back_start}
+use Rattle.back_laws.proofs.Jobs.{IsJob, IsPlaced}
+use Rattle.back_laws.proofs.Held.{IsBack, back_start}
 use Rattle.move_laws.proofs.Always.{back_happens}
 
 -- it trims no sectors

@@ -9,6 +9,7 @@ pub mod DiskSaid
 pub mod DiskMoves
 pub mod DiskTold
 pub mod DiskLearning
+pub mod DiskKnown
 pub mod Learning
 pub mod Serves
 pub mod Runs

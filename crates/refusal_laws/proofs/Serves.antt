@@ -47,7 +47,8 @@ use Rattle.vbd_laws.proofs.MovesTurns.{front_cases, back_cases}
 use Rattle.refusal_laws.proofs.DiskKeys.{IsDiskSaid}
 use Rattle.refusal_laws.proofs.DiskSaid.{IsLate, Goes}
 use Rattle.refusal_laws.proofs.DiskTold.{Then, then_on, IsSuspend, goes_start, suspends_goes}
-use Rattle.refusal_laws.proofs.DiskLearning.{IsDiskKnown, DiskAt, Late, Said, KnowsDisk, known_on, due_knows as due_knows_disk, closed_knows as closed_knows_disk, suspended_knows as suspended_knows_disk, over_knows as over_knows_disk, Knows as KnownBy, front_knows as front_knows_disk}
+use Rattle.refusal_laws.proofs.DiskLearning.{IsDiskKnown, DiskAt, known_on, due_knows as due_knows_disk, closed_knows as closed_knows_disk, suspended_knows as suspended_knows_disk, over_knows as over_knows_disk, Knows as KnownBy}
+use Rattle.refusal_laws.proofs.DiskKnown.{Late, Said, KnowsDisk, front_knows as front_knows_disk}
 use Rattle.refusal_laws.proofs.Learning.{AreKnown, KnowsAt, Knows, due_knows, closed_knows, suspended_knows, front_knows}
 
 -- a state that the front enters, where it is connected, says what the options have the back serve

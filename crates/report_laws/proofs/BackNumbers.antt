@@ -43,7 +43,7 @@ use Rattle.blk_back.specs.View.{View, info_of, new_of, start_of}
 use Rattle.blk_back.specs.Ask.{reply_of, next_reply, next_gref}
 use Rattle.blk_back.specs.Step.{unmapping_next, abort, unbound, bound, other_pages, attached, halts, overrun, looked, loop_step, next_number, fetched, fetch_step, step_at, step_of, told_effect, job_step}
 use Rattle.split_model.specs.Shown.{back_lines, halt_lines}
-use Rattle.move_laws.proofs.Jobs.{direct_served}
+use Rattle.back_laws.proofs.Jobs.{direct_served}
 use Rattle.split_model.proofs.States.{halts_cases}
 use Rattle.machine_pipeline.specs.Allowed.{IsSaid, AreSaid}
 use Rattle.machine_pipeline.proofs.Lists.{all_at}

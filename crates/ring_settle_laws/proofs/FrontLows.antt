@@ -1,13 +1,11 @@
 -- At each stage but those of a look and a push a move of the front lowers what is left to its end, where the word, the page or the frame that it is at is one that it goes through.
-use Rattle.std.proofs.Common.{◌≡◌, ℕ, ◌+◌, ◌-◌, ◌*◌, ◌^◌, ◌<◌, ◌≤◌, ◌==◌, ◌⊎◌, Bool, true, false, if◌then◌else◌, [], ◌∷◌, length, refl, ap, subst, arith}
-use Rattle.std.specs.Prelude.{Option, Some, None, Result, Ok, Err, nat_lt}
-use Rattle.std.proofs.lemmas.Bool.Decides.{nat_tests}
+use Rattle.std.proofs.Common.{◌≡◌, ℕ, ◌+◌, ◌*◌, ◌^◌, ◌<◌, ◌≤◌, ◌==◌, ◌⊎◌, Bool, true, false, if◌then◌else◌, [], ◌∷◌, length, refl, subst, arith}
+use Rattle.std.specs.Prelude.{Option, Some, None, Result, Ok, Err}
 use Rattle.blk_base.specs.Distance.{distance_of}
 use Rattle.blk_base.specs.declared.operation.Status.{Status}
 use Rattle.blk_base.specs.declared.ask.FrontAsk.TheVariants.{Wait}
 use Rattle.blk_base.specs.declared.ask.FrontAnswer.{FrontAnswer}
 use Rattle.blk_base.specs.declared.ask.FrontAnswer.TheVariants as answer
-use Rattle.ring_words.specs.Ring.{notifies}
 use Rattle.ring_words.specs.Shape.{entry_words_of}
 use Rattle.blk_layout.specs.declared.response.Response.{Response}
 use Rattle.blk_layout.specs.Response.{response_of}
@@ -19,10 +17,11 @@ use Rattle.blk_front.specs.Request.{words_in, naming_words}
 use Rattle.blk_front.specs.Sound.{IsSound}
 use Rattle.blk_front.specs.View.{View, next_request}
 use Rattle.blk_front.specs.Ask.{ask_at, is_through, revoke_ask, end_ask, read_ask, IsAnswer}
-use Rattle.blk_front.specs.Step.{at, broken, response_at, taken, answered, freed, revokes, issued, ring_granted, ring_read, ring_ended, ring_left, is_mapped, data_step, left_step, step_at}
-use Rattle.front_laws.specs.Left.{rest_after, of_ending, left_at, left_of, frames_in, IsAtWord, IsAtEnding}
+use Rattle.blk_front.specs.Step.{response_at, taken, answered, freed, revokes, issued, step_at}
+use Rattle.front_laws.specs.Left.{left_at, left_of, frames_in, IsAtWord, IsAtEnding}
 use Rattle.front_laws.proofs.Issued.{data_lowers, page_lowers, grant_lowers, slot_lowers, read_entry_lowers, revoked_lowers}
-use Rattle.front_laws.proofs.Lowers.{last_lowers, data_left, left_left}
+use Rattle.front_laws.proofs.Lowers.{last_lowers}
+use Rattle.front_laws.proofs.Falls.{word_lowers, frame_lowers, leave_lowers, end_lowers, event_lowers, name_lowers, fence_lowers, read_lowers, left_lowers}
 use Rattle.ring_settle_laws.proofs.FrontCalm.{IsCalm}
 use Rattle.ring_settle_laws.proofs.FrontEnd.{given}
 use Rattle.ring_settle_laws.proofs.FrontLoop.{IsLooked, IsLooping}
@@ -59,67 +58,6 @@ IsReady shown stage.LookAgain v a = (v.ring.indices.cons < 2 ^ 32) × IsLooked s
 IsReady shown (stage.RingRead page) v a = page < 2 ^ v.shape.order
 IsReady shown (stage.RingEnd page seen) v a = page < 2 ^ v.shape.order
 IsReady shown s v a = Unit {0}
-
--- the ring is made
-word_lowers : (v : View) (k : ℕ) → k < 16 → left_of (at (if k == 15 then stage.RingFrame 0 else stage.RingWord (k + 1)) v) < left_at (stage.RingWord k) v
-word_lowers v k few = by_last (k == 15) refl
-  where
-    by_last : (b : Bool) → (k == 15) ≡ b → left_of (at (if b then stage.RingFrame 0 else stage.RingWord (k + 1)) v) < left_at (stage.RingWord k) v
-    by_last true e = omega (arith, few)
-    by_last false e = omega (arith, few)
-
-frame_lowers : (v : View) (page : ℕ) → page < 2 ^ v.shape.order → left_of (at (ring_granted v page) v) < left_at (stage.RingFlags page) v
-frame_lowers v page few = by_last (nat_lt (page + 1) (2 ^ v.shape.order)) refl
-  where
-    by_last : (b : Bool) → nat_lt (page + 1) (2 ^ v.shape.order) ≡ b → left_of (at (if b then stage.RingFrame (page + 1) else stage.NewPort) v) < left_at (stage.RingFlags page) v
-    by_last true e = let more : page + 1 < 2 ^ v.shape.order = grind (arith, nat_tests) in omega (arith, more)
-    by_last false e = omega (arith, few)
-
--- it is left
-leave_lowers : (v : View) (page word : ℕ) → page < 2 ^ v.shape.order → left_of (ring_read v page word) < left_at (stage.RingRead page) v
-leave_lowers v page word few = by_mapped (is_mapped word)
-  where
-    by_mapped : (b : Bool) → left_of (if b then broken word v else at (stage.RingEnd page word) v) < left_at (stage.RingRead page) v
-    by_mapped true = omega (arith, few)
-    by_mapped false = omega (arith, few)
-
-end_lowers : (v : View) (page before word : ℕ) → page < 2 ^ v.shape.order → left_of (ring_ended v page before word) < left_at (stage.RingEnd page before) v
-end_lowers v page before word few = by_same (word == before)
-  where
-    by_last : (b : Bool) → nat_lt (page + 1) (2 ^ v.shape.order) ≡ b → left_of (at (if b then stage.RingRead (page + 1) else stage.ClosePort) v) < left_at (stage.RingEnd page before) v
-    by_last true e = let more : page + 1 < 2 ^ v.shape.order = grind (arith, nat_tests) in omega (arith, more)
-    by_last false e = omega (arith, few)
-
-    by_same : (b : Bool) → left_of (if b then at (ring_left v page) v else broken word v) < left_at (stage.RingEnd page before) v
-    by_same true = by_last (nat_lt (page + 1) (2 ^ v.shape.order)) refl
-    by_same false = omega (arith, few)
-
-event_lowers : (v : View) (old event : ℕ) → left_of (at (if notifies old v.ring.indices.prod event then stage.Send else stage.Loop) v) < left_at (stage.RequestEvent old) v
-event_lowers v old event = by_test (notifies old v.ring.indices.prod event)
-  where
-    by_test : (b : Bool) → left_of (at (if b then stage.Send else stage.Loop) v) < left_at (stage.RequestEvent old) v
-    by_test true = omega arith
-    by_test false = omega arith
-
--- a frame is named, and the fence is past
-name_lowers : (v : View) (place : ℕ) (i : IsAtWord (next_request v) frames_in place) → left_of (at (stage.GrantFence place) v) < left_at (stage.GrantFrame place) v
-name_lowers v place i = rw i.next_is (omega (arith, i.within))
-
-fence_lowers : (v : View) (place : ℕ) (i : IsAtWord (next_request v) frames_in place) → left_of (at (stage.GrantFlags place) v) < left_at (stage.GrantFence place) v
-fence_lowers v place i = rw i.next_is (omega (arith, i.within))
-
--- data are read
-read_lowers : (v : View) (n word : ℕ) (i : IsAtEnding v.ending words_in n) → left_of (data_step v.ending n word v) < left_at (stage.ReadData n) v
-read_lowers v n word i =
-    let price : left_at (stage.ReadData n) v ≡ (words_in i.e.request - n) + rest_after 0 v = ap (λ (o : Option Ending). of_ending o (λ r. words_in r - n) + rest_after 0 v) i.ending_is in
-    let same : left_of (data_step v.ending n word v) ≡ left_of (data_step (Some i.e) n word v) = ap (λ (o : Option Ending). left_of (data_step o n word v)) i.ending_is in
-    omega (arith, price, same, data_left v i.e n word i.ending_is i.within)
-
-left_lowers : (v : View) (n word : ℕ) (i : IsAtEnding v.ending words_in n) → left_of (left_step v.ending n word v) < left_at (stage.LeftData n) v
-left_lowers v n word i =
-    let price : left_at (stage.LeftData n) v ≡ (words_in i.e.request - n) + 16 + 3 * 2 ^ v.shape.order + 1 + rest_after 0 v = ap (λ (o : Option Ending). of_ending o (λ r. words_in r - n) + 16 + 3 * 2 ^ v.shape.order + 1 + rest_after 0 v) i.ending_is in
-    let same : left_of (left_step v.ending n word v) ≡ left_of (left_step (Some i.e) n word v) = ap (λ (o : Option Ending). left_of (left_step o n word v)) i.ending_is in
-    omega (arith, price, same, left_left v i.e n word i.ending_is i.within)
 
 -- a response is taken: what is left doesn't depend on a request that ended before
 taken_same : (v : View) (place : ℕ) (r : Request) (status : Status) → left_of (taken v place r status) ≡ left_of (taken (unending v) place r status)

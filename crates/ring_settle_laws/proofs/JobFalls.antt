@@ -1,28 +1,22 @@
 -- What is left to a job falls with each answer, where its stage says of it what the machine's jobs keep.
-use Rattle.std.proofs.Common.{◌≡◌, ℕ, ◌+◌, ◌<◌, ◌≤◌, inl, inr, Bool, true, false, if◌then◌else◌, List, [], ◌∷◌, length, drop, refl, ap, ◌∙◌, arith}
-use Rattle.std.specs.Prelude.{◌==◌, slice_set}
+use Rattle.std.proofs.Common.{◌≡◌, ℕ, ◌+◌, ◌<◌, ◌≤◌, inl, inr, true, List, [], ◌∷◌, length, drop, ap, ◌∙◌, arith}
 use Rattle.std.proofs.lemmas.Bool.{cases_lt, ltb-true}
-use Rattle.std.proofs.lemmas.Bool.Decides.{nat_tests}
 use Rattle.blk_base.specs.declared.parts.Mapping.{Mapping}
 use Rattle.blk_base.specs.declared.parts.Mode.TheVariants.{ReadOnly}
 use Rattle.blk_base.specs.declared.ask.BackAnswer.{BackAnswer}
-use Rattle.blk_base.specs.declared.ask.BackAnswer.TheVariants.{Done, Word, Mapped, MapRefused, Sector, DiskFailed}
+use Rattle.blk_base.specs.declared.ask.BackAnswer.TheVariants.{Done, Word, Sector, DiskFailed}
 use Rattle.blk_layout.specs.declared.segment.Segment.{Segment}
 use Rattle.blk_front.specs.declared.request.Request.{Request}
 use Rattle.blk_front.specs.Request.{frames_for, is_indirect, IsShaped}
 use Rattle.back_jobs.specs.declared.stage.JobStage.{JobStage}
 use Rattle.back_jobs.specs.declared.stage.JobStage.TheVariants as stage
-use Rattle.back_jobs.specs.Work as work
-use Rattle.back_jobs.specs.Work.{Work, ask_at, step_at, IsAnswer, map_ask, rest_of, last_of, first_of, next_sector, next_segment, counted, mode_of}
-use Rattle.back_laws.specs.JobLeft.{left_of, left_at, segments_left, after_sector}
-use Rattle.back_laws.proofs.JobLeft.{lowers}
+use Rattle.back_jobs.specs.Work.{Work, ask_at, IsAnswer, rest_of, last_of, first_of, next_segment, counted, mode_of}
+use Rattle.back_laws.specs.JobLeft.{left_of, segments_left}
+use Rattle.back_laws.proofs.JobLeft.{Lowers, lowers, next_left, map_lowers, read_lowers, write_lowers}
 use Rattle.machine_pipeline.proofs.Flow.{own_segments}
 use Rattle.machine_pipeline.proofs.Segments.{own_here, own_end, frame_segment}
 use Rattle.machine_pipeline.proofs.JobMaps.{only_page}
 use Rattle.machine_pipeline.proofs.Holds.{AtWork, IsInPage, IsHand, IsInSegment, IsReturning}
-
-abbrev Lowers : JobStage → Work → BackAnswer → Type 0
-Lowers s t a = left_of (step_at s t a) < left_at s t
 
 -- The segments of an indirect request are copied: there are as many to copy as it has frames, and at most 960.
 few_named : (r : Request) → IsShaped r → frames_for r.count ≤ 960
@@ -43,45 +37,6 @@ at_segment r t ahead shaped x = x.rest ∙ own_here r x.place shaped x.here
 
 in_segment : (r : Request) (t : Work) (ahead : ℕ) → IsShaped r → IsInSegment t r ahead → t.within ≤ last_of t.rest
 in_segment r t ahead shaped x = omega (arith, ap last_of (at_segment r t ahead shaped x), x.within)
-
-sector_left : (t : Work) (m : Mapping) → left_of (record t { stage = work.sector_stage t.writes m }) ≡ 129 + after_sector t
-sector_left t m = by_way t.writes
-  where
-    by_way : (b : Bool) → left_of (record t { stage = work.sector_stage b m }) ≡ 129 + after_sector t
-    by_way true = omega arith
-    by_way false = refl
-
-next_left : (t : Work) (m : Mapping) → t.within ≤ last_of t.rest → left_of (next_sector t m) ≤ after_sector t
-next_left t m within = by_test (t.within == last_of t.rest) refl
-  where
-    next : Work
-    next = record t { within = t.within + 1 }
-
-    by_test : (b : Bool) → (t.within == last_of t.rest) ≡ b → left_of (if b then record t { stage = stage.Unmap m } else record t { within = t.within + 1; stage = work.sector_stage t.writes m }) ≤ after_sector t
-    by_test true e = omega arith
-    by_test false e =
-        let other : t.within < last_of t.rest = grind (arith, nat_tests) in
-        omega (arith, sector_left next m, other)
-
-map_lowers : (rest : List Segment) (t : Work) (a : BackAnswer) → IsAnswer (map_ask rest t.writes) a → Lowers stage.Map t a
-map_lowers [] t a ok = absurd ok
-map_lowers (s ∷ rest) t (Mapped m) ok = omega (arith, sector_left t m)
-map_lowers (s ∷ rest) t (MapRefused status) ok = omega arith
-map_lowers (s ∷ rest) t a ok = absurd ok
-
-read_lowers : (t : Work) (m : Mapping) (k word : ℕ) → k < 128 → Lowers (stage.ReadWord m k) t (Word word)
-read_lowers t m k word placed = by_test (k == 127) refl
-  where
-    by_test : (b : Bool) → (k == 127) ≡ b → left_of (record t { words = slice_set t.words k word; stage = if b then stage.DiskWrite m else stage.ReadWord m (k + 1) }) < left_at (stage.ReadWord m k) t
-    by_test true e = omega arith
-    by_test false e = omega arith
-
-write_lowers : (t : Work) (m : Mapping) (k : ℕ) → k < 128 → t.within ≤ last_of t.rest → Lowers (stage.WriteWord m k) t Done
-write_lowers t m k placed within = by_test (k == 127) refl
-  where
-    by_test : (b : Bool) → (k == 127) ≡ b → left_of (if b then next_sector t m else record t { stage = stage.WriteWord m (k + 1) }) < left_at (stage.WriteWord m k) t
-    by_test true e = omega (arith, next_left t m within)
-    by_test false e = omega arith
 
 -- the next segment, if there is one, has a sector
 begun_segment : (t : Work) (rest : List Segment) → first_of rest ≤ last_of rest → left_of (next_segment t rest) ≤ segments_left rest

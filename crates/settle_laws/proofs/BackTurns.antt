@@ -32,7 +32,7 @@ use Rattle.vbd_laws.specs.Moves.{IsBackMove}
 use Rattle.vbd_laws.proofs.MovesTurns.{back_asks, back_says, back_learns, back_takes, back_cases}
 use Rattle.vbd_laws.proofs.MovesBack.{back_waits, back_move_is}
 use Rattle.vbd_laws.proofs.NegotiatedBack.{with_back}
-use Rattle.vbd_laws.proofs.ServedHonest.{Honest, Going}
+use Rattle.vbd_laws.proofs.ServedHonest.{Honest, Going, unrefused}
 use Rattle.ring_settle_laws.specs.Left.{ring_left}
 use Rattle.ring_settle_laws.proofs.BackMoves.{back_falls}
 use Rattle.ring_settle_laws.proofs.BackTerms.{attaches_left}
@@ -40,7 +40,6 @@ use Rattle.ring_settle_laws.proofs.Gone.{left_after, back_watch}
 use Rattle.settle_laws.specs.Total.{negotiation_of, total_left}
 use Rattle.settle_laws.proofs.Falling.{Falls}
 use Rattle.settle_laws.proofs.NegotiationBack.{speaks_lowers, back_lowers}
-use Rattle.settle_laws.proofs.BackTurnsGiven.{back_given}
 use Rattle.settle_laws.proofs.BackTurnsTerms.{led_unready}
 use Rattle.settle_laws.proofs.TurnsGone.{back_still}
 use Rattle.settle_laws.proofs.TurnsServed.{back_served}
@@ -125,7 +124,7 @@ module _ (config : Options) (w : World) (d : Pipeline) (honest : Honest config w
   going_falls turn =
       let fit = honest.stands.fit in
       let v : back_view.View = back_step.step_of (backend_of w) a.answer in
-      let given_so = back_given config w a honest turn in
+      let given_so = unrefused config w honest a turn in
       let no_more = back_lowers w a fit going.joined turn given_so.0 given_so.1 in
       let is : IsBackMove w a = back_move_is w a fit turn in
       let same : left (negotiation_of (happens w BackMoves)) ≡ left (after v) = ap (λ (x : World). left (negotiation_of x)) is.world in

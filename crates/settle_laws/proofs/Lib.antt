@@ -2,7 +2,6 @@ pub mod Falling
 pub mod NegotiationBound
 pub mod NegotiationFront
 pub mod NegotiationBack
-pub mod BackTurnsGiven
 pub mod TurnsGone
 pub mod TurnsServed
 pub mod BackTurnsTerms

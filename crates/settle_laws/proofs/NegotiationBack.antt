@@ -1,5 +1,5 @@
 -- A move of the back leaves its negotiation no more to do than before, and less where it took a watch, or its negotiation spoke.
-use Rattle.std.proofs.Common.{◌⊎◌, inl, inr, ◌≡◌, ◌∙◌, ap, sym, subst, ℕ, ◌+◌, ◌≤◌, ◌&&◌, Bool, true, false, true≢false, length, refl, arith, if◌then◌else◌}
+use Rattle.std.proofs.Common.{◌⊎◌, inl, inr, ◌≡◌, ◌∙◌, ap, sym, subst, ℕ, ◌+◌, ◌≤◌, true, false, true≢false, length, refl, arith}
 use Rattle.std.specs.Prelude.{Some}
 use Rattle.blk_base.specs.declared.parts.Mapping.{Mapping}
 use Rattle.blk_base.specs.declared.ask.BackAsk.{BackAsk}
@@ -15,12 +15,10 @@ use Rattle.blk_back.specs.declared.stage.BackStage.TheVariants as ring_stage
 use Rattle.blk_back.specs.Step as ring_step
 use Rattle.xenbus_state.specs.declared.offer.Features.{Features}
 use Rattle.xenbus_state.specs.declared.offer.DiskFacts.{DiskFacts}
-use Rattle.xenbus_state.specs.declared.state.BusState.TheVariants as state
 use Rattle.xenbus_state.specs.declared.stage.BackBusStage.{BackBusStage}
 use Rattle.xenbus_state.specs.declared.stage.BackBusStage.TheVariants as stage
 use Rattle.xenbus_state.specs.declared.back.BackBusAsk.{BackBusAsk}
 use Rattle.xenbus_state.specs.declared.back.BackBusAsk.TheVariants as bus_ask
-use Rattle.xenbus_state.specs.BackView.{BackView}
 use Rattle.xenbus_state.specs.BackAsk.{ask_of}
 use Rattle.xenbus_state.specs.BackStep.{step_of}
 use Rattle.split_model.proofs.Acting.{BackWatched, back_acts}
@@ -37,20 +35,12 @@ use Rattle.vbd_model.specs.Happening.{back_turn, is_backs_ring}
 use Rattle.vbd_model.specs.Fit.{IsFit}
 use Rattle.vbd_laws.proofs.MovesTurns.{back_asks}
 use Rattle.vbd_laws.proofs.NegotiatedRun.{negotiation_of, Joined}
-use Rattle.vbd_laws.proofs.NegotiatedBack.{with_back, a_page, keys_heard, IsGiven, back_keeps}
+use Rattle.vbd_laws.proofs.NegotiatedBack.{with_back, a_page, others_asked, keys_heard, IsGiven, back_keeps}
 use Rattle.ring_settle_laws.proofs.Gone.{back_watch}
-use Rattle.settle_laws.proofs.NegotiationBound.{holds_of}
+use Rattle.vbd_laws.proofs.NegotiatedBusy.{holds_of}
 use Rattle.settle_laws.proofs.NegotiationFront.{no_more, then_no_more, by_one, TakesOne, takes_one}
 
--- a back that unmaps its other mappings asks for that
-others_asked : (v : BackView) → v.stage ≡ stage.UnmapOthers → ask_of v ≡ bus_ask.UnmapOthers
-others_asked v here = rw here (by_test v.unplugged)
-  where
-    by_test : (b : Bool) → (if b && false then bus_ask.SetState state.Closing else bus_ask.UnmapOthers) ≡ bus_ask.UnmapOthers
-    by_test true = refl
-    by_test false = refl
-
--- it goes on where its end of the ring has none, and that leaves no more
+-- a back that unmaps its other mappings goes on where its end of the ring has none, and that leaves no more
 module _ (f : Features) (d : DiskFacts) where
   others_no_more : (n : Negotiation) → n.back.stage ≡ stage.UnmapOthers → Holds f d n → left (with_back n (step_of n.back answer.Done) n.keys) ≤ left n
   others_no_more n here h =

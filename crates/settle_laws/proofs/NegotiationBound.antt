@@ -6,18 +6,12 @@ use Rattle.negotiation_laws.specs.Happening.{Happening, happened, after, AreServ
 use Rattle.negotiation_laws.specs.Within.{HasPort, HavePorts}
 use Rattle.negotiation_laws.specs.Run.{NegotiationRun, now, begins}
 use Rattle.negotiation_laws.specs.Left.{left, one_if, goes}
-use Rattle.negotiation_laws.proofs.Holds.{Holds}
-use Rattle.negotiation_laws.proofs.Found.{run_holds}
 use Rattle.negotiation_laws.proofs.Settling.{moves_lower}
 use Rattle.vbd_model.specs.World.{World}
 use Rattle.vbd_laws.proofs.NegotiatedRun.{Reached, reached_one}
 use Rattle.vbd_laws.proofs.ServedGone.{IsGone}
 use Rattle.vbd_laws.proofs.ServedHonest.{Honest}
 use Rattle.settle_laws.specs.Total.{negotiation_of}
-
--- what is true of a negotiation that is a run
-pub holds_of : (n : Negotiation) (j : Reached n) → Holds j.run.offer j.run.facts n
-holds_of n j = subst (λ (m : Negotiation). Holds j.run.offer j.run.facts m) j.stands (run_holds j.run)
 
 lowers_at : (n : Negotiation) (h : Happening) → HasPort h → Reached n → one_if (goes h n) + left (happened h n) ≤ left n
 lowers_at n h port j = subst (λ (m : Negotiation). one_if (goes h m) + left (happened h m) ≤ left m) j.stands (moves_lower j.run h port)

@@ -32,7 +32,7 @@ use Rattle.vbd_laws.proofs.MovesTurns.{front_asks}
 use Rattle.vbd_laws.proofs.NegotiatedRun.{negotiation_of, Joined}
 use Rattle.vbd_laws.proofs.NegotiatedFront.{with_front, settled_now, Goes, Told, keys_told, HasInHand, front_moves}
 use Rattle.ring_settle_laws.proofs.Gone.{front_watch}
-use Rattle.settle_laws.proofs.NegotiationBound.{holds_of}
+use Rattle.vbd_laws.proofs.NegotiatedBusy.{holds_of}
 
 pub no_more : (g now before : ℕ) → g + now ≤ before → now ≤ before
 no_more g now before a = omega arith

@@ -17,7 +17,6 @@ pub mod Attaching
 pub mod Narrow
 pub mod Keys
 pub mod FewFront
-pub mod FewJobs
 pub mod Tight
 pub mod Echo
 pub mod Outside

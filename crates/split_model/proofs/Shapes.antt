@@ -1,7 +1,6 @@
 -- The shape of the ring, as each end has it: a step leaves it as it is.
 use Rattle.std.proofs.Common.{◌≡◌, ℕ, ◌+◌, ◌*◌, ◌/◌, ◌%◌, ◌^◌, ◌≤◌, ◌&&◌, Bool, true, false, true≢false, if◌then◌else◌, List, ◌∷◌, [], ◌++◌, length, refl, sym, arith}
 use Rattle.std.specs.Prelude.{Option, Some, None, Result, Ok, Err, nat_lt, nat_le, ◌==◌}
-use Rattle.std.proofs.Math.Nat.{pow-le-pow_right}
 use Rattle.std.proofs.lemmas.Bool.Decides.{nat_tests}
 use Rattle.blk_base.specs.Distance.{distance_of}
 use Rattle.blk_base.specs.declared.ask.FrontAnswer.{FrontAnswer}
@@ -29,8 +28,9 @@ use Rattle.blk_back.specs.declared.stage.BackStage.{BackStage}
 use Rattle.blk_back.specs.declared.stage.BackStage.TheVariants as back_stage
 use Rattle.blk_back.specs.declared.stage.Reply.{Reply}
 use Rattle.blk_back.specs.View as back
-use Rattle.blk_back.specs.Ask.{is_led, next_reply}
+use Rattle.blk_back.specs.Ask.{next_reply}
 use Rattle.blk_back.specs.Step as back_step
+pub use Rattle.back_laws.proofs.Calls.{attaches_waiting, attaches_order, attaches_grefs, few_entries}
 
 either : (b : Bool) (x y : View) (s : Shape) → x.shape ≡ s → y.shape ≡ s → (if b then x else y).shape ≡ s
 either true x y s p q = p
@@ -102,20 +102,11 @@ front_shape s v x = refl
 pub step_shape : (v : View) (x : FrontAnswer) → (step_of v x).shape ≡ v.shape
 step_shape v x = front_shape v.stage v x
 
--- where three tests hold each does
-first_of : (a b c : Bool) → (a && b && c) ≡ true → a ≡ true
-first_of true b c may = refl
-first_of false b c may = may
-
+-- of three tests that hold the second does
 second_of : (a b c : Bool) → (a && b && c) ≡ true → b ≡ true
 second_of true true c may = refl
 second_of true false c may = may
 second_of false b c may = absurd (true≢false (sym may))
-
-third_of : (a b c : Bool) → (a && b && c) ≡ true → c ≡ true
-third_of true true c may = may
-third_of true false c may = absurd (true≢false (sym may))
-third_of false b c may = absurd (true≢false (sym may))
 
 is_low : (a b : ℕ) → nat_le a b ≡ true → a ≤ b
 is_low a b test = grind (arith, nat_tests)
@@ -128,10 +119,6 @@ entered_order state.Closing v may = omega arith
 entered_order state.Leaving v may = omega arith
 entered_order state.Closed v may = omega arith
 entered_order (state.Broken word) v may = omega arith
-
--- a ring has at most 512 entries
-pub few_entries : (order : ℕ) → order ≤ 4 → entries_of order ≤ 512
-few_entries order narrow = let few : 2 ^ order ≤ 2 ^ 4 = pow-le-pow_right (omega arith) narrow in omega arith
 
 either_back : (b : Bool) (x y : back.View) (s : Shape) → x.shape ≡ s → y.shape ≡ s → (if b then x else y).shape ≡ s
 either_back true x y s p q = p
@@ -162,17 +149,3 @@ back_shape_at s v x = refl
 -- whatever the back is told
 pub back_shape : (v : back.View) (x : BackAnswer) → (back_step.step_of v x).shape ≡ v.shape
 back_shape v x = back_shape_at v.stage v x
-
--- a back that takes terms waited for them, and the order is at most 4
-is_waiting : (s : BackStage) → is_led s ≡ true → s ≡ back_stage.InitWait
-is_waiting back_stage.InitWait led = refl
-is_waiting s led = absurd (cc)
-
-pub attaches_waiting : (shape : Shape) (grefs : List ℕ) (v : back.View) → back_step.may_attach shape grefs v ≡ true → v.stage ≡ back_stage.InitWait
-attaches_waiting shape grefs v may = is_waiting v.stage (first_of (is_led v.stage) (nat_le shape.order 4) (length grefs == 2 ^ shape.order) may)
-
-pub attaches_order : (shape : Shape) (grefs : List ℕ) (v : back.View) → back_step.may_attach shape grefs v ≡ true → shape.order ≤ 4
-attaches_order shape grefs v may = let narrow = second_of (is_led v.stage) (nat_le shape.order 4) (length grefs == 2 ^ shape.order) may in grind (arith, nat_tests)
-
-pub attaches_grefs : (shape : Shape) (grefs : List ℕ) (v : back.View) → back_step.may_attach shape grefs v ≡ true → length grefs ≡ 2 ^ shape.order
-attaches_grefs shape grefs v may = let many = third_of (is_led v.stage) (nat_le shape.order 4) (length grefs == 2 ^ shape.order) may in grind (arith, nat_tests)

@@ -16,7 +16,7 @@ use Rattle.split_model.specs.Happening.{Happening, FrontMoves, BackMoves, JobMov
 use Rattle.split_model.proofs.FewFront.{IsShort, IsModest, step_modest, entered_modest, submit_modest, suspended_modest}
 use Rattle.split_model.proofs.SafeFront.{start_front, entered_kept, submit_kept}
 use Rattle.split_model.proofs.Suspending.{suspend_cases, front_kept, begun_back, back_cases}
-use Rattle.split_model.proofs.FewJobs.{HasRoom, back_room, attached_room, halted_room, job_room}
+use Rattle.back_laws.proofs.Room.{HasRoom, back_room, attached_room, halted_room, job_room}
 use Rattle.split_model.proofs.Attaching.{attach_cases}
 
 pub record IsTight (w : World) : Type 0 where

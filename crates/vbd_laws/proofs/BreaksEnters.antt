@@ -30,6 +30,7 @@ use Rattle.split_model.proofs.States.{enters_cases}
 use Rattle.machine_pipeline.proofs.Holds.{IsPooled}
 use Rattle.machine_pipeline.proofs.Growing.{taken_next, taken_none}
 use Rattle.machine_pipeline.proofs.Lists.{get_append}
+use Rattle.front_laws.proofs.Changes.{unmade_open}
 use Rattle.vbd_laws.specs.Breaks.{FrontSight, after_line}
 use Rattle.vbd_laws.proofs.BreaksKnown.{core_of, Share, share_of, HasPooled, going_at, request_of, with_going, Agree, agree_submitted, agree_anew, anew_core, anew_share}
 use Rattle.vbd_laws.proofs.BreaksKept.{Parts, parts_of, IsEnding, AtParts, KnownBy}
@@ -71,10 +72,6 @@ leaves : (s : FrontSight) (v x : View) (t : FrontStage) → share_of x ≡ share
 leaves s v x stage.Initialised same is known = record { agree = subst (λ (k : Share). Agree (core_of s) k None) (sym same) known.agree; at = record { few = omega arith; none = known.at } }
 leaves s v x stage.Loop same is known = record { agree = subst (λ (k : Share). Agree (core_of s) k None) (sym same) known.agree; at = record { few = omega arith; none = known.at } }
 leaves s v x t same is known = absurd (true≢false (sym is))
-
-pub unmade_open : (t : FrontStage) → is_unmade t ≡ true → is_open t ≡ true
-unmade_open (stage.RingWord k) e = refl
-unmade_open t e = absurd (true≢false (sym e))
 
 pub initialised_open : (t : FrontStage) → is_initialised t ≡ true → is_open t ≡ true
 initialised_open stage.Initialised e = refl

@@ -1,23 +1,17 @@
--- The request of a response is one that the lines tell as issued and unanswered, and the id's words in an entry are its number.
-use Rattle.std.proofs.Common.{◌≡◌, ℕ, ◌+◌, ◌-◌, ◌*◌, ◌/◌, ◌%◌, ◌^◌, ◌<◌, ◌≤◌, ◌==◌, Bool, true, false, if◌then◌else◌, List, length, take, refl, sym, ap, ◌∙◌, subst, arith}
-use Rattle.std.specs.Prelude.{Option, Some, None, slice_get, slice_index, nat_lt, position}
+-- The request of a response is one that the lines tell as issued and unanswered, and the id's words lie in an entry.
+use Rattle.std.proofs.Common.{◌≡◌, ℕ, ◌+◌, ◌-◌, ◌<◌, ◌≤◌, ◌==◌, Bool, true, false, List, length, take, refl, sym, ap, ◌∙◌, subst, arith}
+use Rattle.std.specs.Prelude.{Option, Some, None, slice_get, nat_lt, position}
 use Rattle.std.specs.Option.{option_map}
 use Rattle.std.proofs.lemmas.Option.{none-some, same_Some}
 use Rattle.std.proofs.lemmas.Bool.Decides.{nat_tests}
 use Rattle.blk_base.specs.declared.operation.Abi.{Abi}
 use Rattle.blk_base.specs.declared.operation.Abi.TheVariants.{X64, X32}
 use Rattle.ring_words.specs.Shape.{entry_words_of}
-use Rattle.blk_layout.specs.Entry.{words_of}
 use Rattle.blk_layout.specs.Places.{places_of}
-use Rattle.blk_layout.specs.declared.request.RawRequest.TheVariants.{Direct, Discard, Indirect}
 use Rattle.blk_front.specs.declared.request.Request.{Request}
-use Rattle.blk_front.specs.declared.request.Transfer.{Transfer}
-use Rattle.blk_front.specs.declared.request.Transfer.TheVariants as transfer
-use Rattle.blk_front.specs.Request.{frames_for, is_indirect, segments_of, page_references}
-use Rattle.blk_front.specs.Entry.{entry_as, entry_of}
 use Rattle.blk_front.specs.View.{View}
 use Rattle.blk_front.specs.Step.{found_at, issued}
-use Rattle.vbd_laws.specs.Breaks.{wide, is_among}
+use Rattle.vbd_laws.specs.Breaks.{is_among}
 use Rattle.machine_pipeline.proofs.Lists.{found_at as place_found, count_one, count_none}
 use Rattle.machine_pipeline.proofs.Removals.{taken_was, found_somewhere}
 use Rattle.vbd_laws.proofs.BreaksCounts.{count_id, count_number, among_count}
@@ -80,42 +74,7 @@ module _ (v : View) (id : ℕ) where
     pub some_among : (found : ℕ × Request) → issued v id ≡ Some found → is_among id c.issued ≡ true
     some_among found e = let some = some_count found e in let same = counted in among_count id c.issued ∙ (grind (arith, nat_tests))
 
--- the words of the id in an entry
-abbrev id_in : Abi → List ℕ → ℕ
-id_in abi entry = wide (slice_index entry (places_of abi).id) (slice_index entry ((places_of abi).id + 1))
-
-both_halves : (n : ℕ) → n % 2 ^ 32 * 1 + 0 + (n / 2 ^ 32 * 1 + 0) * 2 ^ 32 ≡ n
-both_halves n = omega arith
-
-discard_id : (abi : Abi) (r : Request) (sectors : ℕ) → id_in abi (words_of abi (Discard 0 51712 r.number r.sector sectors)) ≡ r.number
-unfolding words_of
-discard_id X64 r sectors = both_halves r.number
-discard_id X32 r sectors = both_halves r.number
-
-indirect_id : (abi : Abi) (r : Request) (op count : ℕ) → id_in abi (words_of abi (Indirect op count 51712 r.number r.sector (page_references r))) ≡ r.number
-unfolding words_of
-indirect_id X64 r op count = both_halves r.number
-indirect_id X32 r op count = both_halves r.number
-
-direct_id : (abi : Abi) (r : Request) (op count : ℕ) → id_in abi (words_of abi (Direct op count 51712 r.number r.sector (segments_of r))) ≡ r.number
-unfolding words_of
-direct_id X64 r op count = both_halves r.number
-direct_id X32 r op count = both_halves r.number
-
-moved_id : (abi : Abi) (r : Request) (op : ℕ) (b : Bool) → id_in abi (words_of abi (if b then Indirect op (frames_for r.count) 51712 r.number r.sector (page_references r) else Direct op (frames_for r.count) 51712 r.number r.sector (segments_of r))) ≡ r.number
-moved_id abi r op true = indirect_id abi r op (frames_for r.count)
-moved_id abi r op false = direct_id abi r op (frames_for r.count)
-
-way_id : (abi : Abi) (r : Request) (way : Transfer) → id_in abi (words_of abi (entry_as way r)) ≡ r.number
-way_id abi r (transfer.Discard sectors) = discard_id abi r sectors
-way_id abi r transfer.Read = moved_id abi r 0 (is_indirect r.count)
-way_id abi r (transfer.Write tag) = moved_id abi r 1 (is_indirect r.count)
-way_id abi r (transfer.Barrier tag) = moved_id abi r 2 (is_indirect r.count)
-way_id abi r transfer.Flush = moved_id abi r 3 (is_indirect r.count)
-
-pub entry_id : (abi : Abi) (r : Request) → wide (slice_index (entry_of abi r) (places_of abi).id) (slice_index (entry_of abi r) ((places_of abi).id + 1)) ≡ r.number
-entry_id abi r = way_id abi r r.transfer
-
+-- the words of the id lie in an entry
 pub id_within : (abi : Abi) → (places_of abi).id + 1 < entry_words_of abi
 id_within X64 = omega arith
 id_within X32 = omega arith

@@ -1,8 +1,7 @@
 -- Each stage of the front's end of the ring: what the lines tell stays what it has.
 use Rattle.std.proofs.Common.{inl, inr, ◌≡◌, ℕ, ◌+◌, ◌*◌, ◌-◌, ◌/◌, ◌%◌, ◌^◌, ◌<◌, ◌≤◌, ◌==◌, ◌&&◌, Bool, true, false, if◌then◌else◌, List, [], ◌∷◌, ◌++◌, length, map, append-nil, refl, sym, ap, ◌∙◌, subst, arith}
-use Rattle.std.specs.Prelude.{Some, None, slice_get, slice_index, nat_lt}
+use Rattle.std.specs.Prelude.{Some, None, slice_index, nat_lt}
 use Rattle.std.specs.List.{range_with_len}
-use Rattle.std.proofs.lemmas.Option.{none-some}
 use Rattle.std.proofs.lemmas.Bool.Decides.{nat_tests}
 use Rattle.std.proofs.lemmas.Bool.{cases_eq}
 use Rattle.blk_base.specs.Distance.{distance_of}
@@ -24,25 +23,12 @@ use Rattle.machine_pipeline.proofs.Lists.{all_at}
 use Rattle.vbd_laws.specs.Breaks.{FrontSight, wide, is_entry_word, frame_of_entry, word_of_entry, id_written, ids_pushed, with_word}
 use Rattle.vbd_laws.proofs.BreaksCounts.{count_id, count_number}
 use Rattle.vbd_laws.proofs.BreaksKnown.{issued_part, core_of, share_of, HasPooled, going_at, Agree, agree_pushed}
-use Rattle.vbd_laws.proofs.BreaksFound.{entry_id, id_within}
+use Rattle.front_laws.proofs.Entries.{entry_number}
+use Rattle.front_laws.proofs.Simple.{next_stands, next_waits}
+use Rattle.vbd_laws.proofs.BreaksFound.{id_within}
 use Rattle.vbd_laws.proofs.BreaksKept.{IsAnew, IsIssuing, At, Known, own_entry, other_entry, entry_beside}
 use Rattle.vbd_laws.proofs.BreaksWords.{far_producer, near_producer, odd_producer, one_further, none_further}
 use Rattle.vbd_laws.proofs.BreaksRing.{RingGoes, calm, wrote}
-
--- the next request is one of the front's, and its frames are of the pool
-next_at : (v : View) (r : Request) → next_request v ≡ Some r → slice_get v.requests (length v.requests - v.waiting) ≡ Some r
-next_at v r e = by_test (v.waiting == 0) e
-  where
-    by_test : (b : Bool) → (if b then None else slice_get v.requests (length v.requests - v.waiting)) ≡ Some r → slice_get v.requests (length v.requests - v.waiting) ≡ Some r
-    by_test true e = absurd (none-some r e)
-    by_test false e = e
-
-next_waits : (v : View) (r : Request) → next_request v ≡ Some r → 0 < v.waiting
-next_waits v r e = by_test (v.waiting == 0) refl e
-  where
-    by_test : (b : Bool) → (v.waiting == 0) ≡ b → (if b then None else slice_get v.requests (length v.requests - v.waiting)) ≡ Some r → 0 < v.waiting
-    by_test true is e = absurd (none-some r e)
-    by_test false is e = grind (arith, nat_tests)
 
 pub either : (b : Bool) (s : FrontSight) (shown : Move) (x y : View) → RingGoes s shown x → RingGoes s shown y → RingGoes s shown (if b then x else y)
 either true s shown x y p q = p
@@ -125,7 +111,7 @@ module _ (s : FrontSight) (v : View) (quiet : v.told ≡ None) (few : v.shape.or
     issuing = record { r = r; next_is = next; none = none }
 
     its_frame : (place : ℕ) → IsPooled (frame_at r place)
-    its_frame place = pooled_at r (all_at HasPooled v.requests (length v.requests - v.waiting) r agree.pooled (next_at v r next)) place
+    its_frame place = pooled_at r (all_at HasPooled v.requests (length v.requests - v.waiting) r agree.pooled (next_stands v r next)) place
 
     pub far : (place w : ℕ) → ((frame_at r place == 2) && (w == 0)) ≡ false
     far place w = far_producer (frame_at r place) w (its_frame place).0
@@ -208,7 +194,7 @@ module _ (s : FrontSight) (v : View) (quiet : v.told ≡ None) (few : v.shape.or
             let within = id_within v.shape.abi in
             ap (λ (shape : Shape). (let place : ℕ = (places_of shape.abi).id in wide (s.written (frame_of_entry s.shape (s.prod + 0) place) (word_of_entry s.shape (s.prod + 0) place)) (s.written (frame_of_entry s.shape (s.prod + 0) (place + 1)) (word_of_entry s.shape (s.prod + 0) (place + 1))))) agree.shape
             ∙ (ap (λ (low : ℕ). wide low (s.written (frame_of_entry s.shape (s.prod + 0) (place + 1)) (word_of_entry s.shape (s.prod + 0) (place + 1)))) (word_at place (omega arith))
-            ∙ (ap (λ (high : ℕ). wide (slice_index (entry_of v.shape.abi r) place) high) (word_at (place + 1) within) ∙ entry_id v.shape.abi r))
+            ∙ (ap (λ (high : ℕ). wide (slice_index (entry_of v.shape.abi r) place) high) (word_at (place + 1) within) ∙ entry_number v.shape.abi r))
 
         ids_are : ids_pushed s (next_of v.ring.indices.prod) ≡ r.number ∷ []
         ids_are =
@@ -219,4 +205,4 @@ module _ (s : FrontSight) (v : View) (quiet : v.told ≡ None) (few : v.shape.or
         agrees =
             subst (λ (ids : List ℕ). Agree (record (core_of s) { prod = next_of v.ring.indices.prod; issued = s.issued ++ ids }) (share_of (pushed v)) None) (sym ids_are)
             (subst (λ (p : ℕ). Agree (record (core_of s) { prod = p; issued = s.issued ++ r.number ∷ [] }) (share_of (pushed v)) None) (ap next_of agree.prod)
-            (agree_pushed (core_of s) (share_of v) r (next_waits v r next) (next_at v r next) agree))
+            (agree_pushed (core_of s) (share_of v) r (next_waits v r next) (next_stands v r next) agree))

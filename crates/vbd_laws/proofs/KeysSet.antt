@@ -16,6 +16,7 @@ use Rattle.xenbus_state.specs.declared.keys.FrontKey.{FrontKey}
 use Rattle.xenbus_state.specs.declared.keys.FrontKey.TheVariants as front_key
 use Rattle.xenbus_state.specs.declared.keys.BackKey.{BackKey}
 use Rattle.xenbus_state.specs.declared.keys.BackKey.TheVariants as back_key
+use Rattle.xenbus_state.specs.declared.state.BusState.{BusState}
 use Rattle.xenbus_state.specs.declared.state.BusState.TheVariants as state
 use Rattle.xenbus_state.specs.declared.stage.FrontBusStage.{FrontBusStage}
 use Rattle.xenbus_state.specs.declared.stage.FrontBusStage.TheVariants as front_stage
@@ -39,11 +40,10 @@ use Rattle.vbd_front.specs.Ask as front
 use Rattle.vbd_back.specs.Ask as back
 use Rattle.vbd_back.specs.View.{offer}
 use Rattle.vbd_front.specs.View.{is_unoccupied, is_broken}
-use Rattle.vbd_model.specs.Fit.{IsEndingPage, FrontRests, IsGranting, FrontGoesWith, IsAborting, IsUnmapping, BackGoesWith, IsUnbound}
+use Rattle.vbd_model.specs.Fit.{IsEndingPage, FrontRests, IsGranting, FrontGoesWith, IsAborting, IsUnmapping, is_serving, BackRests, BackGoesWith, IsUnbound}
 use Rattle.vbd_laws.proofs.FitFrontMoves.{connected_still}
 use Rattle.vbd_laws.proofs.FitFrontBus.{FrontFits, unoccupied, due_cases, closing_cases}
 use Rattle.vbd_laws.proofs.FitFrontSpoken.{whole_rests}
-use Rattle.vbd_laws.proofs.FitBackRing.{is_past}
 
 pub front_may_set : (v : FrontView) (k : FrontKey) → may_set end.Front (path_under end.Front (front_name k)) (text_of (front_value (terms_of v) k)) ≡ true
 front_may_set v front_key.RingPageOrder = refl
@@ -173,12 +173,12 @@ pub front_unpending : (v : FrontView) (f : ends.View) (c : ChannelState) → Fro
     → front.speaks (front_bus.ask_of v (is_unoccupied f)) ≡ false → front.ring_moves (front_bus.ask_of v (is_unoccupied f)) f.stage ≡ false → c.front_pending ≡ false
 front_unpending v f c fits ported none quiet still = none (unported f.stage c (unconnected v f fits quiet still) ported)
 
--- where neither the back's negotiation nor its end of the ring has the move, no port is bound
-unbound_free : (r : BackStage) → back.ring_moves back_ask.Wait r ≡ false → is_past r ≡ false
-unbound_free back_ring.InitWait still = refl
-unbound_free back_ring.MapRing still = refl
-unbound_free back_ring.Bind still = refl
-unbound_free r still = absurd (true≢false still)
+-- an end of the ring that serves has the move where its negotiation waits
+serving_moves : (r : BackStage) → is_serving r ≡ true → back.ring_moves back_ask.Wait r ≡ true
+serving_moves back_ring.InitWait serves = absurd (true≢false (sym serves))
+serving_moves back_ring.MapRing serves = absurd (true≢false (sym serves))
+serving_moves back_ring.Bind serves = absurd (true≢false (sym serves))
+serving_moves r serves = refl
 
 -- one that has halted moves to unmap what it holds
 giving_moves : (r : BackStage) → IsAborting r → back.ring_moves back_ask.UnmapOthers r ≡ true
@@ -192,44 +192,47 @@ unmapping_moves back_ring.UnmapUnbound [] unmaps = refl
 unmapping_moves back_ring.UnmapUnbound (page ∷ pages) unmaps = refl
 unmapping_moves r pages unmaps = absurd unmaps
 
-unpast_at : (b : BackBusStage) (v : BackView) (r : BackStage) → BackGoesWith b v.state r → back.speaks (back_bus.ask_at b v) ≡ false → back.ring_moves (back_bus.ask_at b v) r ≡ false → is_past r ≡ false
-unpast_at back_stage.Rest v r goes quiet still = unbound_free r still
-unpast_at back_stage.UnmapOthers v r goes quiet still = absurd (true≢false (sym (giving_moves r goes) ∙ still))
-unpast_at back_stage.UnmapPage v r goes quiet still = absurd (true≢false (sym (unmapping_moves r v.pages goes) ∙ still))
-unpast_at back_stage.ClosePort v r goes quiet still = absurd (true≢false (sym (ap (back.ring_moves back_ask.ClosePort) goes) ∙ still))
-unpast_at back_stage.Halted v r goes quiet still = absurd (true≢false (sym (ap (back.ring_moves back_ask.Wait) goes.1) ∙ still))
-unpast_at back_stage.MapPage v r goes quiet still = ap is_past goes.1
-unpast_at back_stage.Bind v r goes quiet still = ap is_past goes.1
-unpast_at (back_stage.Publish key) v r goes quiet still = absurd (true≢false quiet)
-unpast_at (back_stage.WriteState own) v r goes quiet still = absurd (true≢false quiet)
-unpast_at back_stage.Watch v r goes quiet still = absurd (true≢false quiet)
-unpast_at back_stage.ReadState v r goes quiet still = absurd (true≢false quiet)
-unpast_at (back_stage.ReadKey key) v r goes quiet still = absurd (true≢false quiet)
-unpast_at (back_stage.PublishFact key) v r goes quiet still = absurd (true≢false quiet)
-
-unpast : (v : BackView) (r : BackStage) → BackGoesWith v.stage v.state r → back.speaks (back_bus.ask_of v) ≡ false → back.ring_moves (back_bus.ask_of v) r ≡ false → is_past r ≡ false
-unpast v r goes = by_test (back_bus.says_closing v)
+-- where neither the back's negotiation nor its end of the ring has the move, it waits for the terms of its front
+led_at : (b : BackBusStage) (v : BackView) (r : BackStage) → BackGoesWith b v.state r → back.speaks (back_bus.ask_at b v) ≡ false → back.ring_moves (back_bus.ask_at b v) r ≡ false → is_led r ≡ true
+led_at back_stage.Rest v r goes quiet still = by_state v.state goes
   where
-    by_test : (c : Bool) → let a : BackBusAsk = if c then back_ask.SetState state.Closing else back_bus.ask_at v.stage v in back.speaks a ≡ false → back.ring_moves a r ≡ false → is_past r ≡ false
+    by_state : (s : BusState) → BackRests s r → is_led r ≡ true
+    by_state state.InitWait rests = ap is_led rests
+    by_state state.Connected rests = absurd (true≢false (sym (serving_moves r rests) ∙ still))
+    by_state state.Closing rests = absurd (true≢false (sym (serving_moves r rests) ∙ still))
+    by_state s rests = absurd rests
+led_at back_stage.UnmapOthers v r goes quiet still = absurd (true≢false (sym (giving_moves r goes) ∙ still))
+led_at back_stage.UnmapPage v r goes quiet still = absurd (true≢false (sym (unmapping_moves r v.pages goes) ∙ still))
+led_at back_stage.ClosePort v r goes quiet still = absurd (true≢false (sym (ap (back.ring_moves back_ask.ClosePort) goes) ∙ still))
+led_at back_stage.Halted v r goes quiet still = absurd (true≢false (sym (ap (back.ring_moves back_ask.Wait) goes.1) ∙ still))
+led_at back_stage.MapPage v r goes quiet still = absurd (true≢false (sym (ap (back.ring_moves (back_bus.ask_at back_stage.MapPage v)) goes.1) ∙ still))
+led_at back_stage.Bind v r goes quiet still = absurd (true≢false (sym (ap (back.ring_moves (back_bus.ask_at back_stage.Bind v)) goes.1) ∙ still))
+led_at (back_stage.Publish key) v r goes quiet still = absurd (true≢false quiet)
+led_at (back_stage.WriteState own) v r goes quiet still = absurd (true≢false quiet)
+led_at back_stage.Watch v r goes quiet still = absurd (true≢false quiet)
+led_at back_stage.ReadState v r goes quiet still = absurd (true≢false quiet)
+led_at (back_stage.ReadKey key) v r goes quiet still = absurd (true≢false quiet)
+led_at (back_stage.PublishFact key) v r goes quiet still = absurd (true≢false quiet)
+
+pub led_of : (v : BackView) (r : BackStage) → BackGoesWith v.stage v.state r → back.speaks (back_bus.ask_of v) ≡ false → back.ring_moves (back_bus.ask_of v) r ≡ false → is_led r ≡ true
+led_of v r goes = by_test (back_bus.says_closing v)
+  where
+    by_test : (c : Bool) → let a : BackBusAsk = if c then back_ask.SetState state.Closing else back_bus.ask_at v.stage v in back.speaks a ≡ false → back.ring_moves a r ≡ false → is_led r ≡ true
     by_test true quiet still = absurd (true≢false quiet)
-    by_test false quiet still = unpast_at v.stage v r goes quiet still
+    by_test false quiet still = led_at v.stage v r goes quiet still
 
-unpast_unpending : (r : BackStage) (c : ChannelState) → is_past r ≡ false → IsUnbound r c → c.back_pending ≡ false
-unpast_unpending back_ring.InitWait c before unbound = unbound.1
-unpast_unpending back_ring.MapRing c before unbound = unbound.1
-unpast_unpending back_ring.Bind c before unbound = unbound.1
-unpast_unpending r c before unbound = absurd (true≢false before)
+led_unpending : (r : BackStage) (c : ChannelState) → is_led r ≡ true → IsUnbound r c → c.back_pending ≡ false
+led_unpending back_ring.InitWait c led unbound = unbound.1
+led_unpending r c led unbound = absurd (true≢false (sym led))
 
-unpast_between : (r : BackStage) → is_past r ≡ false → is_between r ≡ true
-unpast_between back_ring.InitWait before = refl
-unpast_between back_ring.MapRing before = refl
-unpast_between back_ring.Bind before = refl
-unpast_between r before = absurd (true≢false before)
+led_between : (r : BackStage) → is_led r ≡ true → is_between r ≡ true
+led_between back_ring.InitWait led = refl
+led_between r led = absurd (true≢false (sym led))
 
 -- so it has no event to take, and may turn to its keys
 pub back_unpending : (v : BackView) (r : BackStage) (c : ChannelState) → BackGoesWith v.stage v.state r → IsUnbound r c
     → back.speaks (back_bus.ask_of v) ≡ false → back.ring_moves (back_bus.ask_of v) r ≡ false → (c.back_pending ≡ false) × (is_between r ≡ true)
-back_unpending v r c goes unbound quiet still = let before = unpast v r goes quiet still in (unpast_unpending r c before unbound, unpast_between r before)
+back_unpending v r c goes unbound quiet still = let led = led_of v r goes quiet still in (led_unpending r c led unbound, led_between r led)
 
 -- where it is between two steps it may turn to its keys, early ones as it waits for the terms of its front
 pub may_turn : (move : KeyMove) (s : BackStage) → is_between s ≡ true → (is_early move ≡ true → is_led s ≡ true) → may_negotiate s end.Back move ≡ true

@@ -57,7 +57,7 @@ abbrev pub a_page : Mapping
 a_page = record { number = 0; gref = 0; mode = ReadWrite }
 
 -- a back that unmaps its other mappings asks for that
-others_asked : (v : BackView) → v.stage ≡ stage.UnmapOthers → ask_of v ≡ bus_ask.UnmapOthers
+pub others_asked : (v : BackView) → v.stage ≡ stage.UnmapOthers → ask_of v ≡ bus_ask.UnmapOthers
 others_asked v here = rw here (by_test v.unplugged)
   where
     by_test : (b : Bool) → (if b && false then bus_ask.SetState state.Closing else bus_ask.UnmapOthers) ≡ bus_ask.UnmapOthers

@@ -67,7 +67,7 @@ pub heard_first : (config : Options) → HasHeard (start_of config)
 heard_first config some = tt
 
 -- what is true of a negotiation that is a run
-holds_of : (n : Negotiation) (j : Reached n) → Holds j.run.offer j.run.facts n
+pub holds_of : (n : Negotiation) (j : Reached n) → Holds j.run.offer j.run.facts n
 holds_of n j = subst (λ (m : Negotiation). Holds j.run.offer j.run.facts m) j.stands (run_holds j.run)
 
 -- a settled move of a front with requests

@@ -422,10 +422,10 @@ up_quiet ring.Halted held r (answer.Watched path) up is = (tt, refl)
 up_quiet ring.Halted held r x up is = absurd is
 up_quiet s held r x up is = absurd up
 
-module _ (config : Options) (w : World) (a : BackAct) (honest : Honest config w) (going : Going w) (turn : back_turn w ≡ Some a) where
+module _ (config : Options) (w : World) (a : BackAct) (honest : Honest config w) where
   -- where its end of the ring moves
-  ring_quiet : (is_some w.rings.back.halted ≡ false → is_connected w.rings.front.stage ≡ true) → back_act w.rings.under back_mover.Back (ring_ask.ask_of w.rings.back) Took ≡ Some a → Quiet w.rings.back a.answer
-  ring_quiet may e = by_kept honest.standing.kept
+  ring_quiet : back.ring_moves (back_asks w) w.rings.back.stage ≡ true → back_act w.rings.under back_mover.Back (ring_ask.ask_of w.rings.back) Took ≡ Some a → Quiet w.rings.back a.answer
+  ring_quiet moves e = by_kept honest.standing.kept
     where
       allowed : ring_ask.IsAnswer (ring_ask.ask_of w.rings.back) a.answer
       allowed = back_answered w.rings.under w.rings.back Took a e
@@ -433,7 +433,8 @@ module _ (config : Options) (w : World) (a : BackAct) (honest : Honest config w)
       by_kept : IsKept config w.rings honest.standing.pipeline → Quiet w.rings.back a.answer
       by_kept (inl held) =
           let h = held.1 in
-          let goes = back_moves config w.rings held.0 honest.standing.pipeline honest.plain (may (ap is_some h.unhalted)) (record { safe = honest.standing.safe; holds = h }) in
+          let made : is_connected w.rings.front.stage ≡ true = ring_made_now w honest.stands.fit honest.way moves (ap is_some h.unhalted) in
+          let goes = back_moves config w.rings held.0 honest.standing.pipeline honest.plain made (record { safe = honest.standing.safe; holds = h }) in
           let unhalted : (ring_step.step_of w.rings.back a.answer).halted ≡ None = subst (λ (act : Option BackAct). (let x : rings.World = back_after w.rings act in x.back.halted ≡ None)) e goes.holds.unhalted in
           record { given = unhalted_given w.rings.back.stage w.rings.back a.answer allowed unhalted; same = unhalted ∙ sym h.unhalted }
       by_kept (inr over) = let quiet = up_quiet w.rings.back.stage w.rings.back.pages w.rings.back a.answer over.back_at allowed in record { given = quiet.0; same = quiet.1 }
@@ -446,14 +447,14 @@ module _ (config : Options) (w : World) (a : BackAct) (honest : Honest config w)
       back_cases (λ does asked step. Given asked) w
       (λ says untaken e. (key_given w.rings.under (back_asks w) a e, λ mine. absurd (true≢false (sym mine ∙ rw says refl))))
       (λ says takes e. (key_given w.rings.under (back_asks w) a e, λ mine. absurd (true≢false (sym mine ∙ rw says refl))))
-      (λ quiet moves e. let q = ring_quiet (moves_allowed config w honest going moves) e in (q.given, λ mine. q.same))
+      (λ quiet moves e. let q = ring_quiet moves e in (q.given, λ mine. q.same))
       (λ quiet still e. (wait_given w.rings.under a e, λ mine. absurd (true≢false (sym mine ∙ rw (quiet, still) refl))))
 
-  back_joined : Reached (record { front = w.front; back = (back_step.step_of (backend_of w) a.answer).bus; keys = a.under.keys })
-  back_joined = let given = back_given turn in back_goes w a honest.stands.fit going.joined turn given.0 given.1
+pub unrefused : (config : Options) (w : World) → Honest config w → IsUnrefused w
+unrefused config w honest a e = back_given config w a honest e
 
-unrefused : (config : Options) (w : World) → Honest config w → Going w → IsUnrefused w
-unrefused config w honest going a e = back_given config w a honest going e e
+back_joined : (config : Options) (w : World) (a : BackAct) → Honest config w → Going w → back_turn w ≡ Some a → Reached (record { front = w.front; back = (back_step.step_of (backend_of w) a.answer).bus; keys = a.under.keys })
+back_joined config w a honest going turn = let given = unrefused config w honest a turn in back_goes w a honest.stands.fit going.joined turn given.0 given.1
 
 back_joins : (config : Options) (w : World) → Honest config w → Going w → Joined (happens w BackMoves)
 back_joins config w honest going = by_act (back_turn w) refl
@@ -667,7 +668,7 @@ untouched_keeps h untouched = tt
 stays_going : (config : Options) (w : World) (h : Happening) → IsUntouched h → StaysInEpoch h → Honest config w → Going w → Going (happens w h)
 stays_going config w h untouched stays honest going = record {
   joined = joins config w h untouched stays honest going;
-  heard = heard_on w h (untouched_keeps h untouched) stays honest.stands.fit (whole_now config w.rings honest.standing) (hand_now config w honest) going.joined (unrefused config w honest going) going.heard;
+  heard = heard_on w h (untouched_keeps h untouched) stays honest.stands.fit (whole_now config w.rings honest.standing) (hand_now config w honest) going.joined (unrefused config w honest) going.heard;
   first_port = first_port_on w h stays honest.stands.fit going.first_port;
 }
 

@@ -1,4 +1,4 @@
--- What a connected back does with its ring, one deed after another, and what it asks for each (`io/ring.h`: RING_GET_REQUEST, RING_PUSH_RESPONSES_AND_CHECK_NOTIFY, RING_FINAL_CHECK_FOR_REQUESTS).
+-- What a connected back does with its ring, one activity after another, and what it asks for each (`io/ring.h`: RING_GET_REQUEST, RING_PUSH_RESPONSES_AND_CHECK_NOTIFY, RING_FINAL_CHECK_FOR_REQUESTS).
 use Rattle.std.specs.Prelude.{◌≡◌, ℕ, ◌+◌, ◌≤◌, Bool, true, false, List, [], ◌∷◌, ◌++◌, length, slice_index_or}
 use Rattle.blk_base.specs.Distance.{distance_of}
 use Rattle.blk_base.specs.declared.parts.Mapping.{Mapping}
@@ -26,12 +26,12 @@ pub record Reach : Type 0 where
   pub seen : ℕ
 
 -- It is woken, or a watch fires; it reads the requests' producer; it stores the event word to be woken by the next request, and reads the producer again behind a fence; it copies the next entry, of these words; it writes a response, pushes it, and reads behind a fence whether the front waits for one.
-pub data Deed : Type 0 where
-  Waits : (given : BackAnswer) → Deed
-  Looks : (produced : ℕ) → Deed
-  Rests : (produced : ℕ) → Deed
-  Fetches : (words : List ℕ) → Deed
-  Replies : (reply : Reply) (event : ℕ) → Deed
+pub data Activity : Type 0 where
+  Waits : (given : BackAnswer) → Activity
+  Looks : (produced : ℕ) → Activity
+  Rests : (produced : ℕ) → Activity
+  Fetches : (words : List ℕ) → Activity
+  Replies : (reply : Reply) (event : ℕ) → Activity
 
 -- a word is read, a word is written, and what was done so far is seen before what comes
 abbrev pub read : Mapping → ℕ → ℕ → Asked
@@ -67,8 +67,8 @@ abbrev pub sent : Bool → List Asked
 sent true = record { ask = Send; answer = answer.Done } ∷ []
 sent false = []
 
--- what is asked for a deed, and answered; req_prod, req_event, rsp_prod and rsp_event are words 0 to 3 of the ring's first page (struct __name##_sring)
-abbrev pub asks_of : Reach → Deed → List Asked
+-- what is asked for an activity, and answered; req_prod, req_event, rsp_prod and rsp_event are words 0 to 3 of the ring's first page (struct __name##_sring)
+abbrev pub asks_of : Reach → Activity → List Asked
 asks_of r (Waits given) = record { ask = Wait; answer = given } ∷ []
 asks_of r (Looks produced) = read (page_at r 0) 0 produced ∷ []
 asks_of r (Rests produced) = wrote (page_at r 0) 1 (next_of r.cons) ∷ fenced ∷ read (page_at r 0) 0 produced ∷ []
@@ -79,7 +79,7 @@ asks_of r (Replies reply event) =
     ∷ sent (notifies r.prod (next_of r.prod) event)
 
 -- where it stands then
-abbrev pub reached : Reach → Deed → Reach
+abbrev pub reached : Reach → Activity → Reach
 reached r (Waits given) = r
 reached r (Looks produced) = record r { seen = produced }
 reached r (Rests produced) = record r { seen = produced }
@@ -90,7 +90,7 @@ abbrev pub indices : Reach → Ring
 indices r = record { entries = entries_of r.shape.order; prod = r.prod; cons = r.cons }
 
 -- When each may be done. The producer is read where no entry is left that it showed, and read again where it showed none; neither overran the ring. An entry is copied whole, after a producer that showed it. A response has a request that was fetched and has none yet.
-abbrev pub IsRight : Reach → Deed → Type 0
+abbrev pub IsRight : Reach → Activity → Type 0
 IsRight r (Waits given) = IsAnswer Wait given
 IsRight r (Looks produced) = (requests_of (indices r) r.seen ≡ 0) × (overruns (indices r) produced ≡ false)
 IsRight r (Rests produced) = (r.seen ≡ r.cons) × (overruns (indices r) produced ≡ false)
@@ -98,27 +98,27 @@ IsRight r (Fetches words) = (1 ≤ requests_of (indices r) r.seen) × (length wo
 IsRight r (Replies reply event) = 1 ≤ distance_of r.prod r.cons
 
 -- a read of the producer that overran the ring: the same look, but for that
-abbrev pub IsOverrun : Reach → Deed → ℕ → Type 0
+abbrev pub IsOverrun : Reach → Activity → ℕ → Type 0
 IsOverrun r (Looks produced) shown = (requests_of (indices r) r.seen ≡ 0) × (overruns (indices r) produced ≡ true) × (shown ≡ produced)
 IsOverrun r (Rests produced) shown = (r.seen ≡ r.cons) × (overruns (indices r) produced ≡ true) × (shown ≡ produced)
-IsOverrun r deed shown = ⊥
+IsOverrun r activity shown = ⊥
 
--- deeds one after another: what they ask, where they lead, and that each is right where it is done
-abbrev pub all_asks : Reach → List Deed → List Asked
+-- activities one after another: what they ask, where they lead, and that each is right where it is done
+abbrev pub all_asks : Reach → List Activity → List Asked
 all_asks r [] = []
-all_asks r (deed ∷ deeds) = asks_of r deed ++ all_asks (reached r deed) deeds
+all_asks r (activity ∷ activities) = asks_of r activity ++ all_asks (reached r activity) activities
 
-abbrev pub all_reached : Reach → List Deed → Reach
+abbrev pub all_reached : Reach → List Activity → Reach
 all_reached r [] = r
-all_reached r (deed ∷ deeds) = all_reached (reached r deed) deeds
+all_reached r (activity ∷ activities) = all_reached (reached r activity) activities
 
-abbrev pub AreRight : Reach → List Deed → Type 0
+abbrev pub AreRight : Reach → List Activity → Type 0
 AreRight r [] = Unit {0}
-AreRight r (deed ∷ deeds) = IsRight r deed × AreRight (reached r deed) deeds
+AreRight r (activity ∷ activities) = IsRight r activity × AreRight (reached r activity) activities
 
--- the first asks of a deed that is right
+-- the first asks of an activity that is right
 pub record IsBegun (r : Reach) (part : List Asked) : Type 0 where
-  pub deed : Deed
+  pub activity : Activity
   pub rest : List Asked
-  pub right : IsRight r deed
-  pub first : asks_of r deed ≡ part ++ rest
+  pub right : IsRight r activity
+  pub first : asks_of r activity ≡ part ++ rest
