@@ -1,6 +1,6 @@
 // The command `check`.
 use super::asks::{ask_for_nothing, asks};
-use super::outside::{Case, EMPTY, Input, Run, plays};
+use super::outside::{Case, DONE, EMPTY, Input, Run, plays};
 use commands::Command;
 
 const NO_CHECKS: &[&str] = &["check report", "check --moves", "check check"];
@@ -17,11 +17,9 @@ const CHECKS: &[Case] = &[Case {
     input: Input::Text("begin 64 0 0 0 0 rw 8 lines\nready\nready\n"),
     sectors: 1,
     runs: &[Run {
-        room: 4096,
         status: 1,
         out: "broken 3 state\n",
-        err: "",
-        faults: None,
+        ..DONE
     }],
     ..EMPTY
 }];

@@ -1,7 +1,8 @@
 // Cases: a command line, the input, disk and outputs that it is run over, and what each run of it leaves. A
 // test is one call over a table of them; the calls that play them are proved once.
 use super::asks::words;
-use blk_io::{FailsAt, MemorySink, MemorySource};
+use super::forms::Sips;
+use blk_io::{FailsAt, MemorySink, Sink};
 use commands::blkring;
 use image_disk::{FailsAtCalls, ListedCalls, MemoryDisk};
 use std::alloc::Global;
@@ -14,6 +15,32 @@ pub enum Input {
     Zeros(usize),
 }
 
+/// Which calls fail, by their numbers from 1; 0 is none. Those of the disk are counted by what they do, all
+/// calls of the input, of each output and of the error output together.
+#[derive(Clone, Copy)]
+pub struct Fails {
+    pub attach: u64,
+    pub read: u64,
+    pub write: u64,
+    pub flush: u64,
+    pub trim: u64,
+    pub input: u64,
+    pub out: u64,
+    pub err: u64,
+}
+
+/// No call fails.
+pub const NONE: Fails = Fails {
+    attach: 0,
+    read: 0,
+    write: 0,
+    flush: 0,
+    trim: 0,
+    input: 0,
+    out: 0,
+    err: 0,
+};
+
 /// A run, and what stands after it.
 #[derive(Clone, Copy)]
 pub struct Run {
@@ -24,7 +51,19 @@ pub struct Run {
     pub err: &'static str,
     /// How often the input failed so far, and the output, where that is looked at.
     pub faults: Option<(u64, u64)>,
+    /// The sectors that are full of another word than in the beginning.
+    pub written: &'static [(usize, u32)],
 }
+
+/// A run that is done, and leaves nothing.
+pub const DONE: Run = Run {
+    room: 4096,
+    status: 0,
+    out: "",
+    err: "",
+    faults: None,
+    written: &[],
+};
 
 /// One or more runs of a command line.
 #[derive(Clone, Copy)]
@@ -32,15 +71,10 @@ pub struct Case {
     pub name: &'static str,
     pub line: &'static str,
     pub input: Input,
-    /// The disk has so many sectors, each full of this word, and no run changes them.
+    /// The disk has so many sectors, each full of this word.
     pub sectors: usize,
     pub word: u32,
-    /// Which calls fail: attaches of the disk, and all calls of the input, of each output and of the error
-    /// output, by their numbers, from 1.
-    pub attaches: &'static [u64],
-    pub input_fails: &'static [u64],
-    pub out_fails: &'static [u64],
-    pub err_fails: &'static [u64],
+    pub fails: Fails,
     pub runs: &'static [Run],
 }
 
@@ -51,24 +85,21 @@ pub const EMPTY: Case = Case {
     input: Input::Zeros(0),
     sectors: 0,
     word: 0,
-    attaches: &[],
-    input_fails: &[],
-    out_fails: &[],
-    err_fails: &[],
+    fails: NONE,
     runs: &[],
 };
 
-// What the runs of a case have in common.
+/// What the runs of a case have in common.
 #[derive(Drop)]
-struct Outside {
+pub struct Outside {
     words: Vec<String>,
-    input: FailsAt<MemorySource>,
-    disk: FailsAtCalls<MemoryDisk>,
-    err: FailsAt<MemorySink>,
+    pub input: FailsAt<Sips>,
+    pub disk: FailsAtCalls<MemoryDisk>,
+    pub err: FailsAt<MemorySink>,
 }
 
-fn listed(rt: &impl Abort, alloc: Global, calls: &[u64]) -> Vec<u64> {
-    Vec::from_slice(alloc, calls).expect(rt, "memory")
+fn listed(rt: &impl Abort, alloc: Global, call: u64) -> Vec<u64> {
+    Vec::from_slice(alloc, &[call]).expect(rt, "memory")
 }
 
 fn bytes_of(rt: &impl Abort, alloc: Global, input: Input) -> Vec<u8> {
@@ -78,42 +109,59 @@ fn bytes_of(rt: &impl Abort, alloc: Global, input: Input) -> Vec<u8> {
     }
 }
 
-fn input_of(rt: &impl Abort, alloc: Global, case: &Case) -> FailsAt<MemorySource> {
-    let inside = MemorySource::new(bytes_of(rt, alloc, case.input));
-    FailsAt::new(inside, listed(rt, alloc, case.input_fails))
-}
-
-fn sectors_of(rt: &impl Abort, alloc: Global, case: &Case) -> MemoryDisk {
-    let sectors = vec![in alloc; [case.word; 128]; case.sectors].expect(rt, "memory");
+/// A disk of so many sectors, each full of a word.
+pub fn sectors(rt: &impl Abort, alloc: Global, count: usize, word: u32) -> MemoryDisk {
+    let sectors = vec![in alloc; [word; 128]; count].expect(rt, "memory");
     MemoryDisk::new(alloc, sectors).expect(rt, "memory")
 }
 
-fn disk_of(rt: &impl Abort, alloc: Global, case: &Case) -> FailsAtCalls<MemoryDisk> {
+fn failing(
+    rt: &impl Abort,
+    alloc: Global,
+    disk: MemoryDisk,
+    fails: &Fails,
+) -> FailsAtCalls<MemoryDisk> {
     let listed = ListedCalls {
-        attaches: listed(rt, alloc, case.attaches),
-        reads: Vec::new(alloc),
-        writes: Vec::new(alloc),
-        flushes: Vec::new(alloc),
-        trims: Vec::new(alloc),
+        attaches: listed(rt, alloc, fails.attach),
+        reads: listed(rt, alloc, fails.read),
+        writes: listed(rt, alloc, fails.write),
+        flushes: listed(rt, alloc, fails.flush),
+        trims: listed(rt, alloc, fails.trim),
     };
-    FailsAtCalls::new(sectors_of(rt, alloc, case), listed)
+    FailsAtCalls::new(disk, listed)
 }
 
-fn sink(rt: &impl Abort, alloc: Global, room: usize, calls: &[u64]) -> FailsAt<MemorySink> {
+/// An output with room for so many bytes, of which the call of a number fails.
+pub fn sink(rt: &impl Abort, alloc: Global, room: usize, call: u64) -> FailsAt<MemorySink> {
     let shelf = MemorySink::with_room(alloc, room).expect(rt, "memory");
-    FailsAt::new(shelf, listed(rt, alloc, calls))
+    FailsAt::new(shelf, listed(rt, alloc, call))
 }
 
-fn outside_of(rt: &impl Abort, alloc: Global, case: &Case) -> Outside {
+/// The outside of a command line, with this input and disk.
+pub fn outside_of(
+    rt: &impl Abort,
+    alloc: Global,
+    line: &str,
+    input: Sips,
+    disk: MemoryDisk,
+    fails: &Fails,
+) -> Outside {
     Outside {
-        words: words(rt, alloc, case.line),
-        input: input_of(rt, alloc, case),
-        disk: disk_of(rt, alloc, case),
-        err: sink(rt, alloc, 4096, case.err_fails),
+        words: words(rt, alloc, line),
+        input: FailsAt::new(input, listed(rt, alloc, fails.input)),
+        disk: failing(rt, alloc, disk, fails),
+        err: sink(rt, alloc, 4096, fails.err),
     }
 }
 
-fn status(alloc: Global, outside: &mut Outside, out: &mut FailsAt<MemorySink>) -> u8 {
+fn outside_of_case(rt: &impl Abort, alloc: Global, case: &Case) -> Outside {
+    let input = Sips::new(bytes_of(rt, alloc, case.input), 4096);
+    let disk = sectors(rt, alloc, case.sectors, case.word);
+    outside_of(rt, alloc, case.line, input, disk, &case.fails)
+}
+
+/// Runs the program; its exit status.
+pub fn status<O: Sink>(alloc: Global, outside: &mut Outside, out: &mut O) -> u8 {
     blkring(
         alloc,
         outside.words.as_slice(),
@@ -124,21 +172,32 @@ fn status(alloc: Global, outside: &mut Outside, out: &mut FailsAt<MemorySink>) -
     )
 }
 
-fn is_full(disk: &FailsAtCalls<MemoryDisk>, word: u32) -> bool {
-    for sector in disk.inside.content() {
-        if *sector != [word; 128] {
+// The word that a sector is full of.
+fn word_of(sector: usize, word: u32, written: &[(usize, u32)]) -> u32 {
+    for (at, other) in written {
+        if *at == sector {
+            return *other;
+        }
+    }
+    word
+}
+
+fn is_full(disk: &FailsAtCalls<MemoryDisk>, word: u32, written: &[(usize, u32)]) -> bool {
+    for (sector, words) in disk.inside.content().iter().enumerate() {
+        if *words != [word_of(sector, word, written); 128] {
             return false;
         }
     }
     true
 }
 
-fn are_bytes(rt: &impl Abort, name: &str, found: &FailsAt<MemorySink>, wanted: &str) {
+/// An output holds this text.
+pub fn are_bytes(rt: &impl Abort, name: &str, found: &FailsAt<MemorySink>, wanted: &str) {
     assert_eq!(rt; found.inside.bytes(), wanted.as_bytes(), "{name}");
 }
 
 fn goes(rt: &impl Abort, alloc: Global, case: &Case, outside: &mut Outside, run: &Run) {
-    let mut out = sink(rt, alloc, run.room, case.out_fails);
+    let mut out = sink(rt, alloc, run.room, case.fails.out);
     let status = status(alloc, outside, &mut out);
     assert_eq!(rt; status, run.status, "{}", case.name);
     are_bytes(rt, case.name, &out, run.out);
@@ -146,11 +205,15 @@ fn goes(rt: &impl Abort, alloc: Global, case: &Case, outside: &mut Outside, run:
     if let Some(faults) = run.faults {
         assert_eq!(rt; (outside.input.faults, out.faults), faults, "{}", case.name);
     }
-    assert!(rt; is_full(&outside.disk, case.word), "{}", case.name);
+    assert!(rt;
+        is_full(&outside.disk, case.word, run.written),
+        "{}",
+        case.name
+    );
 }
 
 fn play(rt: &impl Abort, alloc: Global, case: &Case) {
-    let mut outside = outside_of(rt, alloc, case);
+    let mut outside = outside_of_case(rt, alloc, case);
     for run in case.runs {
         goes(rt, alloc, case, &mut outside, run);
     }

@@ -1,14 +1,5 @@
 // Runs of the program, and what they leave.
-use super::outside::{Case, EMPTY, Input, Run, plays};
-
-// A run that is done, and leaves nothing.
-const DONE: Run = Run {
-    room: 4096,
-    status: 0,
-    out: "",
-    err: "",
-    faults: None,
-};
+use super::outside::{Case, DONE, EMPTY, Fails, Input, NONE, Run, plays};
 
 const RINGS: &[Case] = &[
     Case {
@@ -80,7 +71,7 @@ const SCHEDULES: &[Case] = &[
         line: "run disk",
         input: Input::Text("settle\n"),
         sectors: 8,
-        attaches: &[1],
+        fails: Fails { attach: 1, ..NONE },
         runs: &[Run {
             status: 7,
             err: "blkring: the image failed\n",
@@ -100,8 +91,11 @@ const FAILING: &[Case] = &[Case {
     name: "first the input fails, and then the output",
     line: "inspect",
     input: Input::Zeros(4096),
-    input_fails: &[1],
-    err_fails: &[3],
+    fails: Fails {
+        input: 1,
+        err: 3,
+        ..NONE
+    },
     runs: &[
         Run {
             status: 4,
@@ -130,8 +124,11 @@ const TWICE: &[Case] = &[Case {
     name: "the input fails, and after it the output",
     line: "run disk",
     sectors: 8,
-    input_fails: &[1],
-    out_fails: &[3],
+    fails: Fails {
+        input: 1,
+        out: 3,
+        ..NONE
+    },
     runs: &[Run {
         status: 4,
         out: "begin 64 0 0 0 0 rw 8 lines\n",
@@ -152,7 +149,7 @@ const BENCHES: &[Case] = &[Case {
     line: "bench 7 10",
     sectors: 1,
     word: 1,
-    input_fails: &[1],
+    fails: Fails { input: 1, ..NONE },
     runs: &[
         Run {
             out: "submitted 8\nrefused 0\neffects 62\nanswered 8\nquiet\n",
