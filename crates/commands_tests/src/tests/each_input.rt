@@ -8,7 +8,7 @@ use std::alloc::Global;
 use std::process::Abort;
 
 // How many bytes the input gives a call.
-const SIP: u64 = 7;
+const SIP: u64 = 13;
 
 const INPUT_FAILED: &str = "blkring: the input failed\n";
 

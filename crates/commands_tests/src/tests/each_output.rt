@@ -60,10 +60,11 @@ fn lacks_output(rt: &impl Abort, alloc: Global, worked: &Worked, call: u64) {
     assert!(rt; ends_a_line(out), "{name}");
 }
 
-fn all_lack_output(rt: &impl Abort, alloc: Global, examples: &[Worked]) {
+// The calls from this one to that, or to the last.
+fn all_lack_output(rt: &impl Abort, alloc: Global, examples: &[Worked], from: u64, to: u64) {
     for worked in examples {
         let calls = goes(rt, alloc, worked).out.calls;
-        for call in 1..=calls {
+        for call in from..=calls.min(to) {
             lacks_output(rt, alloc, worked, call);
         }
     }
@@ -71,12 +72,28 @@ fn all_lack_output(rt: &impl Abort, alloc: Global, examples: &[Worked]) {
 
 #[test]
 fn where_a_call_of_the_output_fails_it_holds_the_lines_before_it(rt: HostRuntime) {
-    all_lack_output(&rt, rt.alloc(), WORKED);
+    all_lack_output(&rt, rt.alloc(), WORKED, 1, u64::MAX);
+}
+
+// An indirect request has many calls, so they are parted.
+#[test]
+fn so_it_is_where_an_indirect_request_begins(rt: HostRuntime) {
+    all_lack_output(&rt, rt.alloc(), INDIRECT, 1, 50);
 }
 
 #[test]
-fn so_it_is_where_an_indirect_request_is_reported(rt: HostRuntime) {
-    all_lack_output(&rt, rt.alloc(), INDIRECT);
+fn so_it_is_amid_an_indirect_request(rt: HostRuntime) {
+    all_lack_output(&rt, rt.alloc(), INDIRECT, 51, 100);
+}
+
+#[test]
+fn so_it_is_later_in_an_indirect_request(rt: HostRuntime) {
+    all_lack_output(&rt, rt.alloc(), INDIRECT, 101, 150);
+}
+
+#[test]
+fn so_it_is_where_an_indirect_request_ends(rt: HostRuntime) {
+    all_lack_output(&rt, rt.alloc(), INDIRECT, 151, u64::MAX);
 }
 
 // What came out of an output that keeps back, of which the flush of a number fails, and how many there
@@ -103,10 +120,11 @@ fn hands_on(rt: &impl Abort, alloc: Global, worked: &Worked, call: u64) -> u64 {
     out.flushes
 }
 
-fn all_hand_on(rt: &impl Abort, alloc: Global, examples: &[Worked]) {
+// The flushes from this one to that, or to the last.
+fn all_hand_on(rt: &impl Abort, alloc: Global, examples: &[Worked], from: u64, to: u64) {
     for worked in examples {
         let calls = hands_on(rt, alloc, worked, 0);
-        for call in 1..=calls {
+        for call in from..=calls.min(to) {
             hands_on(rt, alloc, worked, call);
         }
     }
@@ -114,10 +132,15 @@ fn all_hand_on(rt: &impl Abort, alloc: Global, examples: &[Worked]) {
 
 #[test]
 fn where_handing_on_fails_amid_a_line_the_image_is_at_most_one_change_ahead(rt: HostRuntime) {
-    all_hand_on(&rt, rt.alloc(), WORKED);
+    all_hand_on(&rt, rt.alloc(), WORKED, 1, u64::MAX);
 }
 
 #[test]
-fn so_it_is_where_an_indirect_request_is_handed_on(rt: HostRuntime) {
-    all_hand_on(&rt, rt.alloc(), INDIRECT);
+fn so_it_is_where_the_first_sectors_of_an_indirect_request_are_handed_on(rt: HostRuntime) {
+    all_hand_on(&rt, rt.alloc(), INDIRECT, 1, 50);
+}
+
+#[test]
+fn so_it_is_where_its_last_sectors_are_handed_on(rt: HostRuntime) {
+    all_hand_on(&rt, rt.alloc(), INDIRECT, 51, u64::MAX);
 }
