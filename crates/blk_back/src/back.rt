@@ -1,5 +1,5 @@
 // The back end.
-ghost use Rattle.std.specs.Prelude.{◌≡◌, ◌<◌, ◌≤◌, IfOk, IsOk, IsErr, OnErr, None, length};
+ghost use Rattle.std.specs.Prelude.{◌≡◌, ◌<◌, ◌≤◌, IfOk, IsOk, IsErr, None, length};
 ghost use Rattle.ring_words.specs.Shape.{entry_words_of};
 ghost use Rattle.blk_back.specs.View.{start_of, new_of, page_of, slot_page, slot_word};
 ghost use Rattle.blk_back.specs.Ask.{ask_of, loop_ask, reply_ask, entry_ask, index_ask, unmap_ask, next_gref, next_reply, response_word, IsAnswer, StaysInPage};
@@ -282,7 +282,6 @@ impl<'a> Endpoint<'a> for Back {
         ensures completed { self.new ≡ step_of self.old answer.now }
         ensures hands { HandsAfter (ask_of self.old) answer.now (hands_of self.old) (hands_of self.new) }
         ensures takes_no_memory { IsOk result }
-        ensures unchanged { OnErr result (self.new ≡ self.old) }
     {
         self.step(answer);
         Ok(())

@@ -1,5 +1,5 @@
 // What every end of a ring is.
-ghost use Rattle.std.specs.Prelude.{◌≡◌, OnErr};
+ghost use Rattle.std.specs.Prelude.{◌≡◌, IsOk};
 
 use std::alloc::{AllocError, AllocFailed};
 use std::error::Error;
@@ -46,8 +46,8 @@ pub trait Endpoint<'a> {
     fn ask(&'a self) -> Self::Ask
         ensures { result ≡ asked self.now };
 
-    /// Tells the end what became of its ask. After an `Err` the end is as before.
+    /// Tells the end what became of its ask. That takes no memory, so none is missing.
     fn tell(&mut self, answer: &Self::Answer) -> Result<(), OutOfMemory>
         requires { MayTell self.old answer.now }
-        ensures unchanged { OnErr result (self.new ≡ self.old) };
+        ensures takes_no_memory { IsOk result };
 }

@@ -1,5 +1,5 @@
 // The front end.
-ghost use Rattle.std.specs.Prelude.{◌≡◌, ◌<◌, ◌≤◌, ◌+◌, ◌^◌, Some, None, IfOk, IfSome, IsOk, OnErr, slice_index, option_map};
+ghost use Rattle.std.specs.Prelude.{◌≡◌, ◌<◌, ◌≤◌, ◌+◌, ◌^◌, Some, None, IfOk, IfSome, IsOk, slice_index, option_map};
 ghost use Rattle.blk_base.specs.declared.ask.FrontAsk.TheVariants.{Wait};
 ghost use Rattle.std.specs.Option.{option_copied};
 ghost use Rattle.ring_words.specs.Shape.{entry_words_of};
@@ -482,7 +482,6 @@ impl<'a> Endpoint<'a> for Front {
         requires { IsAnswer (ask_of self.old) answer.now × (self.old.told ≡ None) }
         ensures completed { self.new ≡ step_of self.old answer.now }
         ensures takes_no_memory { IsOk result }
-        ensures unchanged { OnErr result (self.new ≡ self.old) }
     {
         match (self.stage, answer) {
             (FrontStage::RingWord(word), _) => self.wrote_ring_word(word),

@@ -1,5 +1,5 @@
 // The backend.
-ghost use Rattle.std.specs.Prelude.{◌≡◌, ◌≤◌, IfOk, IsOk, OnErr, None, true, length};
+ghost use Rattle.std.specs.Prelude.{◌≡◌, ◌≤◌, IfOk, IsOk, None, true, length};
 ghost use Rattle.blk_back.specs.Ask.{StaysInPage};
 ghost use Rattle.blk_back.specs.Hands.{hands_of};
 ghost use Rattle.back_jobs.specs.Hands.{Names, HandsAfter};
@@ -144,7 +144,6 @@ impl<'a> Endpoint<'a> for Backend {
         ensures completed { self.new ≡ step_of self.old answer.now }
         ensures hands { HandsAfter (ask_of self.old) answer.now (hands_of self.old.ring) (hands_of self.new.ring) }
         ensures takes_no_memory { IsOk result }
-        ensures unchanged { OnErr result (self.new ≡ self.old) }
     {
         self.step(answer);
         Ok(())

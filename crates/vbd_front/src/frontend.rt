@@ -1,5 +1,5 @@
 // The frontend.
-ghost use Rattle.std.specs.Prelude.{◌≡◌, ◌||◌, ◌≤◌, ◌^◌, None, is_some, IfOk, IfSome, IsOk, OnErr};
+ghost use Rattle.std.specs.Prelude.{◌≡◌, ◌||◌, ◌≤◌, ◌^◌, None, is_some, IfOk, IfSome, IsOk};
 ghost use Rattle.blk_front.specs.Submit.{submit_of, unfinished, sectors_owed};
 ghost use Rattle.vbd_front.specs.View.{start_of, heard};
 ghost use Rattle.vbd_front.specs.Ask.{ask_of, is_waiting, IsAnswer, StaysInMemory};
@@ -229,7 +229,6 @@ impl<'a> Endpoint<'a> for Frontend {
         requires { IsAnswer (ask_of self.old) answer.now × (self.old.ring.told ≡ None) }
         ensures completed { self.new ≡ step_of self.old answer.now }
         ensures takes_no_memory { IsOk result }
-        ensures unchanged { OnErr result (self.new ≡ self.old) }
     {
         // The negotiation learns nothing of the moves of a ring that is made, but of a watch.
         match (self.turn, answer) {
