@@ -1,6 +1,6 @@
 // Each call of the disk and of the error output fails in turn, under worked examples.
 use super::each_input::{ends, has_image, run};
-use super::outside::{Fails, NONE};
+use super::outside::{Fails, NONE, holds};
 use super::worked::{INDIRECT, WORKED, Worked, whole_of};
 use std::alloc::Global;
 use std::process::Abort;
@@ -48,11 +48,7 @@ fn lacks_disk(rt: &impl Abort, alloc: Global, worked: &Worked, fails: Fails) {
     ends(rt, worked.name, &ending.outside, ending.status, 0, "");
     let report = str::from_utf8(ending.out.inside.bytes()).expect(rt, "text");
     let whole = whole_of(rt, alloc, worked);
-    assert!(rt;
-        is_faulty(report, whole.as_str()),
-        "{}: {report}",
-        worked.name
-    );
+    holds(rt, worked.name, is_faulty(report, whole.as_str()));
     has_image(rt, alloc, worked.name, worked, &ending.outside, report);
 }
 
@@ -100,7 +96,7 @@ fn says(rt: &impl Abort, alloc: Global, worked: &Worked, fails: Fails, status: u
         status,
         said,
     );
-    assert_eq!(rt; ending.outside.err.calls, 2, "{}", worked.name);
+    holds(rt, worked.name, ending.outside.err.calls == 2);
 }
 
 fn all_say(rt: &impl Abort, alloc: Global, examples: &[Worked]) {

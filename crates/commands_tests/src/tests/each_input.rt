@@ -1,6 +1,6 @@
 // Worked examples, and each read of their input that fails in turn.
 use super::forms::Sips;
-use super::outside::{Fails, NONE, Outside, are_bytes, outside_of, sectors, sink, status};
+use super::outside::{Fails, NONE, Outside, are_bytes, holds, outside_of, sectors, sink, status};
 use super::worked::{INDIRECT, WORKED, Worked, image_of, report_of, schedule_of, whole_of};
 use blk_io::{FailsAt, MemorySink};
 use image_disk::CallCounts;
@@ -72,7 +72,7 @@ pub fn has_image(
     report: &str,
 ) {
     let image = image_of(rt, alloc, worked, report, usize::MAX, 0);
-    assert!(rt; is_image(outside, &image), "{name}");
+    holds(rt, name, is_image(outside, &image));
 }
 
 /// Runs an example of which no call fails.
@@ -102,7 +102,7 @@ fn has_calls(rt: &impl Abort, worked: &Worked, ending: &Ending) {
         flushes,
         trims,
     };
-    assert_eq!(rt; ending.outside.disk.made, calls, "{}", worked.name);
+    holds(rt, worked.name, ending.outside.disk.made == calls);
 }
 
 fn all_go(rt: &impl Abort, alloc: Global, examples: &[Worked]) {

@@ -1,7 +1,7 @@
 // Each call of the output fails in turn, under worked examples.
 use super::each_input::{ends, goes, is_image, name_of, outside, run};
 use super::forms::KeepsBack;
-use super::outside::{Fails, NONE, Outside, status};
+use super::outside::{Fails, NONE, Outside, holds, status};
 use super::worked::{INDIRECT, WORKED, Worked, image_of, whole_of};
 use std::alloc::Global;
 use std::process::Abort;
@@ -33,7 +33,7 @@ fn is_begun(
     out: &[u8],
 ) {
     let report = whole_of(rt, alloc, worked);
-    assert!(rt; report.as_bytes().starts_with(out), "{name}");
+    holds(rt, name, report.as_bytes().starts_with(out));
     let lines = lines_in(out);
     let told = image_of(rt, alloc, worked, report.as_str(), lines, 0);
     let next = image_of(rt, alloc, worked, report.as_str(), lines, 1);
@@ -57,7 +57,7 @@ fn lacks_output(rt: &impl Abort, alloc: Global, worked: &Worked, call: u64) {
         OUTPUT_FAILED,
     );
     is_begun(rt, alloc, name.as_str(), worked, &ending.outside, out);
-    assert!(rt; ends_a_line(out), "{name}");
+    holds(rt, name.as_str(), ends_a_line(out));
 }
 
 // The calls from this one to that, or to the last.

@@ -191,6 +191,11 @@ fn is_full(disk: &FailsAtCalls<MemoryDisk>, word: u32, written: &[(usize, u32)])
     true
 }
 
+/// Goes on only where this is so.
+pub fn holds(rt: &impl Abort, name: &str, condition: bool) {
+    assert!(rt; condition, "{name}");
+}
+
 /// An output holds this text.
 pub fn are_bytes(rt: &impl Abort, name: &str, found: &FailsAt<MemorySink>, wanted: &str) {
     assert_eq!(rt; found.inside.bytes(), wanted.as_bytes(), "{name}");
