@@ -40,12 +40,15 @@ pub fn a_quiet_report_has_an_answer_for_each_submission()
 /// So have its counts, where it echoes a schedule that ends with `settle`, and no line says `unsettled`:
 /// and the last word is `quiet`.
 pub fn a_settled_schedule_is_counted_as_answered()
-    ensures { (options : Options) (detail : Detail) (events : List Event) (report : List Line) → Echoes options detail (events ++ Settle ∷ []) report → AreAnsweredOnce report → IsQuietAnswered report → IsSettled report → AreAllAnswered (tally_of report) }
+    ensures { (options : Options) (detail : Detail) (events : List Event) (report : List Line)
+        → Echoes options detail (events ++ Settle ∷ []) report → AreAnsweredOnce report → IsQuietAnswered report → IsSettled report
+        → AreAllAnswered (tally_of report) }
 {}
 
 /// A report is honest exactly where the schedule that it echoes has no hostile line.
 pub fn a_report_is_as_honest_as_its_schedule()
-    ensures { (options : Options) (detail : Detail) (schedule : List Event) (report : List Line) → Echoes options detail schedule report → list_all is_honest report ≡ is_honest_schedule schedule }
+    ensures { (options : Options) (detail : Detail) (schedule : List Event) (report : List Line)
+        → Echoes options detail schedule report → list_all is_honest report ≡ is_honest_schedule schedule }
 {}
 
 /// The rule refuses `error` where the disk didn't fail, or failed at another request or in the epoch before,

@@ -12,5 +12,6 @@ ghost use Rattle.ring_settle_laws.specs.Stations.{requests_left, is_anew};
 /// Whatever the pipeline does but submit a request or resume the domain, what is left to the requests
 /// doesn't rise: none stands at an earlier station of its way again.
 pub fn what_is_left_to_the_requests_never_rises()
-    ensures { (steps : List Step) (d : Pipeline) → list_any is_anew steps ≡ false → AreAllowed steps d → (let p : Pipeline = after_steps steps d in requests_left p.requests ≤ requests_left d.requests) }
+    ensures { (steps : List Step) (d : Pipeline) → list_any is_anew steps ≡ false → AreAllowed steps d
+        → (let p : Pipeline = after_steps steps d in requests_left p.requests ≤ requests_left d.requests) }
 {}
