@@ -16,7 +16,7 @@ use Rattle.commands.specs.Scene.{Scene, scene, options_of, bytes_limit, with_ima
 use Rattle.commands.specs.Ending.{RunsOn, RunStops, run_stop}
 use Rattle.machine_pipeline.specs.Submissions.{jobs_of}
 use Rattle.schedule_run.proofs.Headline.{lawful_keeps}
-use Rattle.legal_runs.proofs.Promised.{run_found}
+use Rattle.legal_laws.proofs.Runs.{lawful_found}
 use Rattle.commands.specs.Reported.{IsReported, IsReportedSoFar, ReportsTheHeadline, RunReports}
 use Rattle.commands.proofs.Runs.{run_left}
 
@@ -92,7 +92,7 @@ done_reports image options sectors lender old new h =
       faults = lawful.faults;
       lawful = lawful.lawful;
       legal = λ of.
-          run_found (options_of options sectors) options.detail lawful.events old.disk.content new.disk.content lawful.report
+          lawful_found (options_of options sectors) options.detail lawful.events old.disk.content new.disk.content lawful.report
           (record { lawful = lawful.lawful; disk = of; echo = lawful.echo; widths = lawful.widths });
     }
 

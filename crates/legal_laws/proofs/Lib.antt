@@ -7,3 +7,4 @@ pub mod Cut
 pub mod Found
 pub mod Short
 pub mod Promised
+pub mod Runs

@@ -4,3 +4,4 @@ pub mod Legal
 pub mod Order
 pub mod Promised
 pub mod Found
+pub mod Runs

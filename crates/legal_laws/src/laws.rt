@@ -5,6 +5,7 @@ ghost use Rattle.legal_laws.specs.Legal.{HonestPartIsLegal, KeptIsLegal};
 ghost use Rattle.legal_laws.specs.Order.{AnswersAreInOrder, EchoIsInOrder};
 ghost use Rattle.legal_laws.specs.Found.{LegalIsFoundLegal};
 ghost use Rattle.legal_laws.specs.Promised.{JobsCanBeAsked, PromisedSoFarIsLegal, PromisedIsLegal, PromisedIsFoundLegal};
+ghost use Rattle.legal_laws.specs.Runs.{LawfulIsKept, LawfulIsFoundLegal};
 
 /// A run of the plain disk, whatever its sectors hold at first, is one from sectors of which nothing
 /// is known (`disk`): its requests, places, notes and writes are the same. So is a report that a run
@@ -55,4 +56,13 @@ pub fn a_report_as_a_run_promises_it_is_legal()
     ensures so_far { PromisedSoFarIsLegal }
     ensures whole { PromisedIsLegal }
     ensures found { PromisedIsFoundLegal }
+{}
+
+/// A lawful report that echoes its schedule keeps all rules, whatever a hostile hand overwrites, and
+/// its last line is `end` (`kept`); so a check finds its text legal, unless it stops before its end
+/// (`found`). Premises: the disk is one, as `run` asks for; and each submission has numbers of the
+/// grammar, as `run` promises (`IsLawfulRun`: `widths`).
+pub fn the_report_of_a_run_is_legal()
+    ensures kept { LawfulIsKept }
+    ensures found { LawfulIsFoundLegal }
 {}

@@ -29,8 +29,8 @@ OfRuns Claim =
     (config : Options) (detail : Detail) (events : List Event) (before now : Option (List (List ℕ))) (report : List Line)
     → IsRunReport config detail events before now report → Claim report
 
-abbrev pub RunIsKept : Type 0
-RunIsKept = OfRuns (λ report. Obeys KeepsAll report × EndsWell report)
+abbrev pub LawfulIsKept : Type 0
+LawfulIsKept = OfRuns (λ report. Obeys KeepsAll report × EndsWell report)
 
-abbrev pub RunIsFoundLegal : Type 0
-RunIsFoundLegal = OfRuns (λ report. IsFoundLegal (report_text report))
+abbrev pub LawfulIsFoundLegal : Type 0
+LawfulIsFoundLegal = OfRuns (λ report. IsFoundLegal (report_text report))

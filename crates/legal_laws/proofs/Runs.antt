@@ -12,7 +12,7 @@ use Rattle.trace_check.specs.Rules.{KeepsAll}
 use Rattle.trace_check.specs.Found.{EndsWell}
 use Rattle.legal_laws.specs.Promised.{IsPromised, IsFoundLegal}
 use Rattle.legal_laws.proofs.Promised.{jobs_asked, promised_legal, promised_found_legal}
-use Rattle.legal_runs.specs.Legal.{IsRunReport}
+use Rattle.legal_laws.specs.Runs.{IsRunReport}
 
 promised : (config : Options) (detail : Detail) (events : List Event) (before now : Option (List (List ℕ))) (report : List Line)
     → IsRunReport config detail events before now report → IsPromised config detail (jobs_of events) report
@@ -40,12 +40,12 @@ promised config detail events before now report r =
       };
     }
 
-pub run_kept : (config : Options) (detail : Detail) (events : List Event) (before now : Option (List (List ℕ))) (report : List Line)
+pub lawful_kept : (config : Options) (detail : Detail) (events : List Event) (before now : Option (List (List ℕ))) (report : List Line)
     → IsRunReport config detail events before now report → Obeys KeepsAll report × EndsWell report
-run_kept config detail events before now report r =
+lawful_kept config detail events before now report r =
     promised_legal config detail events (jobs_of events) report (promised config detail events before now report r) r.echo
 
-pub run_found : (config : Options) (detail : Detail) (events : List Event) (before now : Option (List (List ℕ))) (report : List Line)
+pub lawful_found : (config : Options) (detail : Detail) (events : List Event) (before now : Option (List (List ℕ))) (report : List Line)
     → IsRunReport config detail events before now report → IsFoundLegal (report_text report)
-run_found config detail events before now report r =
+lawful_found config detail events before now report r =
     promised_found_legal config detail events (jobs_of events) report (promised config detail events before now report r) r.echo r.lawful.grammar.lines
