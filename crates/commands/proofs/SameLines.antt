@@ -1,7 +1,8 @@
 -- Two texts that begin with the same lines, and the events that lines ask for.
 use Rattle.std.proofs.Common.{◌≡◌, ◌≢◌, ℕ, ◌+◌, List, [], ◌∷◌, ◌++◌, length, length-append, refl, sym, ap, ◌∙◌, subst, arith}
 use Rattle.schedule_text.specs.declared.event.Event.{Event}
-use Rattle.schedule_run.specs.Reading.{text_of, HasNoLineFeed, first_line, IsLineOf, IsBadLine, AreLinesOf, last_line, IsWholeSchedule, HasBadLine}
+use Rattle.schedule_text.specs.Event.{IsReadOf}
+use Rattle.schedule_run.specs.Reading.{text_of, HasNoLineFeed, first_line, IsBadLine, AreLinesOf, last_line, IsWholeSchedule, HasBadLine}
 use Rattle.schedule_run.proofs.Lines.{first_line_whole, first_line_all}
 
 pub text_first : (line text last : List ℕ) → ((line ++ 10 ∷ []) ++ text) ++ last ≡ line ++ 10 ∷ (text ++ last)
@@ -38,10 +39,10 @@ pub no_bad : (lines others : List (List ℕ)) (last rest : List ℕ) (events ask
 no_bad [] [] [] rest events asked e are too some bad = some (sym e)
 no_bad [] [] (b ∷ last) rest events asked e are too some bad =
     let first : b ∷ last ≡ first_line rest = sym (first_line_all (b ∷ last) are.2) ∙ ap first_line e in
-    bad are.0 (subst (λ line. IsLineOf line are.0) first are.3)
+    bad are.0 (subst (λ line. IsReadOf are.0 line) first are.3)
 no_bad (line ∷ lines) [] last rest events asked e are too some bad =
     let first : line ≡ first_line rest = sym (first_line_whole line (text_of lines ++ last) are.2) ∙ ap first_line (sym (text_first line (text_of lines) last) ∙ e) in
-    bad are.0 (subst (λ line. IsLineOf line are.0) first are.3)
+    bad are.0 (subst (λ line. IsReadOf are.0 line) first are.3)
 no_bad [] (other ∷ others) [] rest events asked e are too some bad = never_empty other (text_of others ++ rest) (e ∙ text_first other (text_of others) rest)
 no_bad [] (other ∷ others) (b ∷ last) rest events asked e are too some bad =
     no_line (b ∷ last) other (text_of others ++ rest) are.2 too.2 (e ∙ text_first other (text_of others) rest)

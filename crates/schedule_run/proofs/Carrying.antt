@@ -3,7 +3,9 @@ use Rattle.std.proofs.Common.{◌≡◌, ◌≢◌, ℕ, ◌+◌, ◌*◌, ◌<�
 use Rattle.std.proofs.lemmas.List.Elements.{All-push, All-nil}
 use Rattle.std.proofs.lemmas.List.{take_more, take-append-drop, length-take}
 use Rattle.blk_io.specs.Disk.{attached_of, sectors_of}
+use Rattle.schedule_text.specs.declared.event.BadLine.{BadLine}
 use Rattle.schedule_text.specs.declared.event.Event.{Event}
+use Rattle.schedule_text.specs.Event.{IsReadOf, IsEventOf, IsSilent}
 use Rattle.schedule_text.specs.declared.recorder.RecordStop.{RecordStop}
 use Rattle.schedule_text.specs.declared.recorder.RecordStop.TheVariants as record_stop
 use Rattle.vbd_model.specs.World.{World}
@@ -12,15 +14,23 @@ use Rattle.vbd_model.specs.Kind.{AreOf, AreOfAll, AreOfSoFar}
 use Rattle.vbd_model.specs.Leads.{Leads, LeadsToStop, Goes, Moment}
 use Rattle.vbd_model.proofs.Running.{after-append, runs_attachment, leads_nowhere, leads_on, leads_as}
 use Rattle.schedule_run.specs.Outcome.{stop_of}
-use Rattle.schedule_run.specs.Reading.{text_of, HasNoLineFeed, first_line, IsLineOf, IsBadLine, AreLinesOf, last_line}
+use Rattle.schedule_run.specs.Reading.{text_of, HasNoLineFeed, first_line, IsBadLine, AreLinesOf, last_line}
 use Rattle.schedule_run.specs.Carrying.{ReadSoFar, IsReadyToTake, EventsLead, CarriesLine, StopsInLine, StopsAtLine, Feeds, Finishes, CarriesLast, Carries, IsSurelyBad, MeetsBad, MeetsStop, Halts, Takes}
 use Rattle.schedule_run.specs.declared.schedule.RunStop.{RunStop}
 use Rattle.schedule_run.specs.declared.schedule.RunStop.TheVariants as stop
 use Rattle.vbd_model.proofs.Keeping.{sectors_after}
 use Rattle.schedule_run.proofs.Lines.{long_is_bad, events_few, lines_few, lines_on, text_on, lines_one, first_line_long, first_line_whole}
 
+-- a line of which nothing is read is a bad one
+abbrev refused : BadLine → Result (Option Event) BadLine
+refused why = Err why
+
+pub unread : (line : List ℕ) (why : BadLine) → (IsSilent line → refused why ≡ Ok None) → ((event : Event) → IsEventOf event line → refused why ≡ Ok (Some event)) → IsBadLine line
+unread line why silent only None is = let e = silent is in cc
+unread line why silent only (Some event) is = let e = only event is in cc
+
 -- a line's event was carried out
-pub line_carried : (line : List ℕ) (event : Event) (events events' : ℕ) (old new : Moment) → IsLineOf line (Some event) → events' ≡ events + 1 → Leads (AreOf event old.world) old new → CarriesLine line events events' old new
+pub line_carried : (line : List ℕ) (event : Event) (events events' : ℕ) (old new : Moment) → IsEventOf event line → events' ≡ events + 1 → Leads (AreOf event old.world) old new → CarriesLine line events events' old new
 line_carried line event events events' old new is counted leads = record {
   read = Some event;
   is_line = is;
@@ -29,16 +39,16 @@ line_carried line event events events' old new is counted leads = record {
 }
 
 -- and where the machine didn't stop
-pub line_goes : (line line' : List ℕ) (read : Option Event) (event : Event) (events events' n : ℕ) (result : Result (Unit {0}) RecordStop) (old new : Moment) → ((why : RecordStop) → result ≡ Err why → ⊥) → line' ≡ line → read ≡ Some event → IsLineOf line' read → events' ≡ events + 1 → Goes (AreOf event old.world) (AreOfSoFar event old.world) n result old new → CarriesLine line events events' old new
-line_goes line line' read event events events' n (Ok done) old new ok same some is counted goes = line_carried line event events events' old new (subst (λ r. IsLineOf line r) some (subst (λ l. IsLineOf l read) same is)) counted goes.ends
+pub line_goes : (line line' : List ℕ) (read : Option Event) (event : Event) (events events' n : ℕ) (result : Result (Unit {0}) RecordStop) (old new : Moment) → ((why : RecordStop) → result ≡ Err why → ⊥) → line' ≡ line → read ≡ Some event → IsReadOf read line' → events' ≡ events + 1 → Goes (AreOf event old.world) (AreOfSoFar event old.world) n result old new → CarriesLine line events events' old new
+line_goes line line' read event events events' n (Ok done) old new ok same some is counted goes = line_carried line event events events' old new (subst (λ r. IsReadOf r line) some (subst (λ l. IsReadOf read l) same is)) counted goes.ends
 line_goes line line' read event events events' n (Err why) old new ok same some is counted goes = absurd (ok why refl)
 
 -- and where it did
-pub line_stops : (line line' : List ℕ) (read : Option Event) (event : Event) (number n : ℕ) (result : Result (Unit {0}) RecordStop) (why : RecordStop) (old new : Moment) → result ≡ Err why → line' ≡ line → read ≡ Some event → IsLineOf line' read → Goes (AreOf event old.world) (AreOfSoFar event old.world) n result old new → StopsAtLine line number (stop_of why) old new
+pub line_stops : (line line' : List ℕ) (read : Option Event) (event : Event) (number n : ℕ) (result : Result (Unit {0}) RecordStop) (why : RecordStop) (old new : Moment) → result ≡ Err why → line' ≡ line → read ≡ Some event → IsReadOf read line' → Goes (AreOf event old.world) (AreOfSoFar event old.world) n result old new → StopsAtLine line number (stop_of why) old new
 line_stops line line' read event number n result why old new stopped same some is goes =
     by why (record {
       event = event;
-      is_line = subst (λ r. IsLineOf line r) some (subst (λ l. IsLineOf l read) same is);
+      is_line = subst (λ r. IsReadOf r line) some (subst (λ l. IsReadOf read l) same is);
       stopped = stops (subst (λ r. Goes (AreOf event old.world) (AreOfSoFar event old.world) n r old new) stopped goes);
     })
   where
@@ -50,10 +60,10 @@ line_stops line line' read event number n result why old new stopped same some i
     by record_stop.OutOfMemory h = h
 
 -- a line asks for nothing
-pub line_silent : (line line' : List ℕ) (read : Option Event) (events events' : ℕ) (old : Moment) → line' ≡ line → read ≡ None → IsLineOf line' read → events' ≡ events → CarriesLine line events events' old old
+pub line_silent : (line line' : List ℕ) (read : Option Event) (events events' : ℕ) (old : Moment) → line' ≡ line → read ≡ None → IsReadOf read line' → events' ≡ events → CarriesLine line events events' old old
 line_silent line line' read events events' old same none is counted = record {
   read = None;
-  is_line = subst (λ r. IsLineOf line r) none (subst (λ l. IsLineOf l read) same is);
+  is_line = subst (λ r. IsReadOf r line) none (subst (λ l. IsReadOf read l) same is);
   counted = omega arith;
   leads = leads_nowhere (AreOfAll [] old.world) old refl;
 }

@@ -4,13 +4,13 @@ use Rattle.std.specs.Prelude.{replicate, sum_by}
 use Rattle.std.proofs.lemmas.List.Sums.{sum_by-cons, sum_by-append}
 use Rattle.std.proofs.lemmas.Bool.Decides.{nat_tests}
 use Rattle.blk_base.specs.Options.{Options}
-use Rattle.schedule_text.specs.Event.{is_number}
+use Rattle.schedule_text.specs.Event.{is_number, is_event_allowed}
 use Rattle.schedule_text.specs.declared.event.Event.{Event}
 use Rattle.schedule_text.specs.declared.event.Event.TheVariants as events
 use Rattle.blk_front.specs.Submit.{unfinished, sectors_owed}
 use Rattle.vbd_model.specs.World.{World, start_of, is_quiet}
 use Rattle.vbd_model.specs.Happening.{Happening, FrontMoves, BackMoves, JobMoves, Settles, happens, after}
-use Rattle.vbd_model.specs.Kind.{is_carried, AreEachJobs, round_start, IsBeginning, IsRoundSoFar, AreRounds, never, settle_bound, most_rounds, AreRoundsSoFar, IsSettling, IsSettlingSoFar, Makes, MakesSoFar, AreOf, AreOfSoFar, AreOfAll}
+use Rattle.vbd_model.specs.Kind.{AreEachJobs, round_start, IsBeginning, IsRoundSoFar, AreRounds, never, settle_bound, most_rounds, AreRoundsSoFar, IsSettling, IsSettlingSoFar, Makes, MakesSoFar, AreOf, AreOfSoFar, AreOfAll}
 use Rattle.vbd_model.proofs.Running.{after-append}
 use Rattle.split_model.proofs.FewFront.{modest_sectors}
 use Rattle.vbd_model.proofs.Tight.{tight_start, tight_after}
@@ -132,13 +132,13 @@ settling_so_far_few w hs r (inr is) = settling_few w hs r is
 number_few : (n : ℕ) → is_number n ≡ true → n ≤ 1000000
 number_few n e = grind (arith, nat_tests)
 
-pub back_few : (e : Event) (n : ℕ) → is_carried e ≡ true → e ≡ events.Back n → n ≤ 1000000
-back_few e n carried is = number_few n (subst (λ (x : Event). is_carried x ≡ true) is carried)
+pub back_few : (e : Event) (n : ℕ) → is_event_allowed e ≡ true → e ≡ events.Back n → n ≤ 1000000
+back_few e n carried is = number_few n (subst (λ (x : Event). is_event_allowed x ≡ true) is carried)
 
-pub turn_few : (e : Event) (n : ℕ) → is_carried e ≡ true → e ≡ events.Turn n → n ≤ 1000000
-turn_few e n carried is = number_few n (subst (λ (x : Event). is_carried x ≡ true) is carried)
+pub turn_few : (e : Event) (n : ℕ) → is_event_allowed e ≡ true → e ≡ events.Turn n → n ≤ 1000000
+turn_few e n carried is = number_few n (subst (λ (x : Event). is_event_allowed x ≡ true) is carried)
 
-second_number : (k n : ℕ) → is_carried (events.Job k n) ≡ true → n ≤ 1000000
+second_number : (k n : ℕ) → is_event_allowed (events.Job k n) ≡ true → n ≤ 1000000
 second_number k n e = grind (arith, nat_tests)
 
 same_length : (n : ℕ) (h : Happening) → length (replicate n h) ≡ n
@@ -151,7 +151,7 @@ moves_few n h le = let same = same_length n h in let few = others_few (replicate
 only_few : (hs : List Happening) (h : Happening) → hs ≡ h ∷ [] → others_of hs ≤ most_others
 only_few hs h e = let few = others_few hs in let one : length hs ≡ 1 = ap length e in omega arith
 
-made_few : (e : Event) (w : World) (hs : List Happening) → IsReached w → is_carried e ≡ true → Makes e w hs → others_of hs ≤ most_others
+made_few : (e : Event) (w : World) (hs : List Happening) → IsReached w → is_event_allowed e ≡ true → Makes e w hs → others_of hs ≤ most_others
 made_few (events.Submit job) w hs r carried k = only_few hs _ k.0
 made_few (events.Front n) w hs r carried k = subst (λ (l : List Happening). others_of l ≤ most_others) (sym k) (moves_few n FrontMoves (number_few n carried))
 made_few (events.Back n) w hs r carried k = subst (λ (l : List Happening). others_of l ≤ most_others) (sym k) (moves_few n BackMoves (number_few n carried))
@@ -162,7 +162,7 @@ made_few (events.Poke frame word value) w hs r carried k = only_few hs _ k.0
 made_few events.Suspend w hs r carried k = only_few hs _ k.0
 made_few e w hs r carried k = only_few hs _ k
 
-made_so_far_few : (e : Event) (w : World) (hs : List Happening) → IsReached w → is_carried e ≡ true → MakesSoFar e w hs → others_of hs ≤ most_others
+made_so_far_few : (e : Event) (w : World) (hs : List Happening) → IsReached w → is_event_allowed e ≡ true → MakesSoFar e w hs → others_of hs ≤ most_others
 made_so_far_few (events.Front n) w hs r carried k = beginning_few hs (replicate n FrontMoves) most_others k (moves_few n FrontMoves (number_few n carried))
 made_so_far_few (events.Back n) w hs r carried k = beginning_few hs (replicate n BackMoves) most_others k (moves_few n BackMoves (number_few n carried))
 made_so_far_few (events.Job number n) w hs r carried k = let few = second_number number n carried in let all : length hs ≤ n = k.1 in let some = others_few hs in omega arith

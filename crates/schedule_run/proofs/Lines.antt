@@ -17,9 +17,8 @@ use Rattle.blk_base.specs.declared.parts.End.TheVariants as ends
 use Rattle.schedule_text.specs.declared.event.Event.{Event}
 use Rattle.schedule_text.specs.declared.event.Event.TheVariants as events
 use Rattle.schedule_text.specs.Line.{submission_words}
-use Rattle.schedule_text.specs.Event.{event_text, end_word, EventHasWidths}
-use Rattle.vbd_model.specs.Kind.{is_carried}
-use Rattle.schedule_run.specs.Reading.{text_of, HasNoLineFeed, first_line, IsLineOf, IsBadLine, AreLinesOf}
+use Rattle.schedule_text.specs.Event.{event_text, end_word, EventHasWidths, is_event_allowed, IsReadOf}
+use Rattle.schedule_run.specs.Reading.{text_of, HasNoLineFeed, first_line, IsBadLine, AreLinesOf}
 
 is_no_feed : (b : ℕ) → b ≢ 10 → not (b == 10) ≡ true
 is_no_feed b h = grind (arith, nat_tests)
@@ -84,39 +83,39 @@ text_short : (text : List ℕ) → is_key_text text ≡ true → length text ≤
 unfolding is_key_text
 text_short text e = let sized = both_true (nat_lt 0 (length text) && nat_le (length text) 64) (list_all is_graphic text) e in grind (arith, nat_tests)
 
--- the text of an event that is carried out is short
-carried_short : (event : Event) → EventHasWidths event → is_carried event ≡ true → length (event_text event) ≤ 128
-carried_short (events.Submit (submissions.Read s c)) h e =
+-- the text of an event is short
+allowed_short : (event : Event) → EventHasWidths event → is_event_allowed event ≡ true → length (event_text event) ≤ 128
+allowed_short (events.Submit (submissions.Read s c)) h e =
     omega (arith, four_words (codes "submit") (codes "read") (decimal s) (decimal c), long_short s h.0, word_short c h.1.1)
-carried_short (events.Submit (submissions.Write s c t)) h e =
+allowed_short (events.Submit (submissions.Write s c t)) h e =
     omega (arith, five_words (codes "submit") (codes "write") (decimal s) (decimal c) (hex8 t), long_short s h.0, word_short c h.1.1, hex_short t)
-carried_short (events.Submit (submissions.Barrier s c t)) h e =
+allowed_short (events.Submit (submissions.Barrier s c t)) h e =
     omega (arith, five_words (codes "submit") (codes "barrier") (decimal s) (decimal c) (hex8 t), long_short s h.0, word_short c h.1.1, hex_short t)
-carried_short (events.Submit submissions.Flush) h e = omega arith
-carried_short (events.Submit (submissions.Discard s c)) h e =
+allowed_short (events.Submit submissions.Flush) h e = omega arith
+allowed_short (events.Submit (submissions.Discard s c)) h e =
     omega (arith, four_words (codes "submit") (codes "discard") (decimal s) (decimal c), long_short s h.0, word_short c h.1.1)
-carried_short (events.Front n) h e = omega (arith, two_words (codes "front") (decimal n), word_short n h)
-carried_short (events.Back n) h e = omega (arith, two_words (codes "back") (decimal n), word_short n h)
-carried_short (events.Job k n) h e = omega (arith, three_words (codes "job") (decimal k) (decimal n), word_short k h.0, word_short n h.1)
-carried_short (events.Turn n) h e = omega (arith, two_words (codes "turn") (decimal n), word_short n h)
-carried_short events.Settle h e = omega arith
-carried_short events.Look h e = omega arith
-carried_short (events.Notify end) h e = omega (arith, two_words (codes "notify") (end_word end), end_short end)
-carried_short (events.Close end) h e = omega (arith, two_words (codes "close") (end_word end), end_short end)
-carried_short (events.Poke f w v) h e = omega (arith, four_words (codes "poke") (decimal f) (decimal w) (decimal v), word_short f h.0, word_short w h.1, word_short v h.2)
-carried_short (events.Key name text) h e =
+allowed_short (events.Front n) h e = omega (arith, two_words (codes "front") (decimal n), word_short n h)
+allowed_short (events.Back n) h e = omega (arith, two_words (codes "back") (decimal n), word_short n h)
+allowed_short (events.Job k n) h e = omega (arith, three_words (codes "job") (decimal k) (decimal n), word_short k h.0, word_short n h.1)
+allowed_short (events.Turn n) h e = omega (arith, two_words (codes "turn") (decimal n), word_short n h)
+allowed_short events.Settle h e = omega arith
+allowed_short events.Look h e = omega arith
+allowed_short (events.Notify end) h e = omega (arith, two_words (codes "notify") (end_word end), end_short end)
+allowed_short (events.Close end) h e = omega (arith, two_words (codes "close") (end_word end), end_short end)
+allowed_short (events.Poke f w v) h e = omega (arith, four_words (codes "poke") (decimal f) (decimal w) (decimal v), word_short f h.0, word_short w h.1, word_short v h.2)
+allowed_short (events.Key name text) h e =
     let both = both_true (is_key_name name) (is_key_text text) e in
     omega (arith, three_words (codes "key") name text, name_short name both.0, text_short text both.1)
-carried_short events.Suspend h e = omega arith
-carried_short events.Dump h e = omega arith
+allowed_short events.Suspend h e = omega arith
+allowed_short events.Dump h e = omega arith
 
--- a longer line isn't carried out
+-- a longer line is none of the grammar
 pub long_is_bad : (line : List ℕ) → 128 < length line → IsBadLine line
 long_is_bad [] h None is = omega arith
 long_is_bad (b ∷ bytes) h None is = omega (arith, is.1)
 long_is_bad line h (Some event) is =
-    let short = carried_short event is.0.widths is.1 in
-    let same : length (event_text event) ≡ length line = ap length is.0.text in
+    let short = allowed_short event is.widths is.allowed in
+    let same : length (event_text event) ≡ length line = ap length is.text in
     omega arith
 
 -- the text of any event has four bytes or more
@@ -135,11 +134,11 @@ event_long (events.Poke f w v) = omega arith
 event_long (events.Key name text) = omega (arith, three_words (codes "key") name text)
 event_long events.Dump = omega arith
 
-line_long : (line : List ℕ) (read : Option Event) → IsLineOf line read → 4 * length (option_to_list read) ≤ length line
+line_long : (line : List ℕ) (read : Option Event) → IsReadOf read line → 4 * length (option_to_list read) ≤ length line
 line_long line None is = omega arith
 line_long line (Some event) is =
     let long = event_long event in
-    let same : length (event_text event) ≡ length line = ap length is.0.text in
+    let same : length (event_text event) ≡ length line = ap length is.text in
     omega arith
 
 pub text-cons : (line : List ℕ) (lines : List (List ℕ)) → length (text_of (line ∷ lines)) ≡ length line + 1 + length (text_of lines)
@@ -173,5 +172,5 @@ pub text_on : (a b : List (List ℕ)) → text_of (a ++ b) ≡ text_of a ++ text
 text_on a b = flat_map-append (λ line. line ++ 10 ∷ []) a b
 
 -- one line
-pub lines_one : (line : List ℕ) (read : Option Event) → HasNoLineFeed line → IsLineOf line read → AreLinesOf (line ∷ []) (option_to_list read)
+pub lines_one : (line : List ℕ) (read : Option Event) → HasNoLineFeed line → IsReadOf read line → AreLinesOf (line ∷ []) (option_to_list read)
 lines_one line read u is = (read, [], u, is, sym (append-nil (option_to_list read)), refl)

@@ -3,13 +3,14 @@ use Rattle.std.specs.Prelude.{◌⊎◌, ◌≡◌, ℕ, ◌+◌, ◌*◌, ◌^�
 use Rattle.blk_io.specs.Outside.{Rose, SourceSeen, GivesBytes, FailsReading}
 use Rattle.blk_io.specs.Disk.{DiskSeen, attached_of}
 use Rattle.schedule_text.specs.declared.event.Event.{Event}
+use Rattle.schedule_text.specs.Event.{IsReadOf, IsEventOf}
 use Rattle.schedule_text.specs.declared.recorder.RecordStop.{RecordStop}
 use Rattle.schedule_text.specs.declared.recorder.RecordStop.TheVariants as record_stop
 use Rattle.schedule_text.specs.Recorder.{RecorderSeen, HandsOnLines, FailsHandingOn}
 use Rattle.vbd_model.specs.Kind.{AreOfAll, AreOfSoFar}
 use Rattle.vbd_model.specs.Leads.{Leads, LeadsToStop, Moment, moment}
 use Rattle.schedule_run.specs.Machine.{Run}
-use Rattle.schedule_run.specs.Reading.{text_of, HasNoLineFeed, first_line, IsLineOf, IsBadLine, AreLinesOf, last_line, IsWholeSchedule, HasBadLine, IsTooLong, HasBegun, HasComeTo, HasReadTo, Tells, TellsRest}
+use Rattle.schedule_run.specs.Reading.{text_of, HasNoLineFeed, first_line, IsBadLine, AreLinesOf, last_line, IsWholeSchedule, HasBadLine, IsTooLong, HasBegun, HasComeTo, HasReadTo, Tells, TellsRest}
 use Rattle.schedule_run.specs.declared.schedule.RunStop.{RunStop}
 use Rattle.schedule_run.specs.declared.schedule.RunStop.TheVariants as stop
 
@@ -44,14 +45,14 @@ EventsLead events old new = Leads (AreOfAll events old.world) old new
 -- this line was carried out
 pub record CarriesLine (line : List ℕ) (events events' : ℕ) (old new : Moment) : Type 0 where
   pub read : Option Event
-  pub is_line : IsLineOf line read
+  pub is_line : IsReadOf read line
   pub counted : events' ≡ events + length (option_to_list read)
   pub leads : EventsLead (option_to_list read) old new
 
 -- the recorder stopped at a line of the last happening of this line's event
 pub record StopsInLine (line : List ℕ) (why : RecordStop) (old new : Moment) : Type 0 where
   pub event : Event
-  pub is_line : IsLineOf line (Some event)
+  pub is_line : IsEventOf event line
   pub stopped : LeadsToStop (AreOfSoFar event old.world) why old new
 
 -- how carrying out the line of this number stopped

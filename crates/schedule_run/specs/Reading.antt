@@ -1,8 +1,7 @@
 -- A schedule's bytes, line by line, and the events that they ask for.
-use Rattle.std.specs.Prelude.{◌≡◌, ◌≢◌, ℕ, ◌+◌, ◌<◌, ◌≤◌, ◌⊎◌, min, true, not, ◌==◌, List, [], ◌∷◌, ◌++◌, length, take, take_while, flat_map, option_to_list, All, Option, Some, None}
+use Rattle.std.specs.Prelude.{◌≡◌, ◌≢◌, ℕ, ◌+◌, ◌<◌, ◌≤◌, ◌⊎◌, min, not, ◌==◌, List, [], ◌∷◌, ◌++◌, length, take, take_while, flat_map, option_to_list, All, Option, Some, None}
 use Rattle.schedule_text.specs.declared.event.Event.{Event}
-use Rattle.schedule_text.specs.Event.{IsEventOf, IsSilent}
-use Rattle.vbd_model.specs.Kind.{is_carried}
+use Rattle.schedule_text.specs.Event.{IsReadOf, IsEventOf}
 
 -- a line with its line feed
 abbrev pub with_feed : List ℕ → List ℕ
@@ -20,20 +19,15 @@ HasNoLineFeed bytes = All (λ (b : ℕ). b ≢ 10) bytes
 abbrev pub first_line : List ℕ → List ℕ
 first_line bytes = take_while (λ b. not (b == 10)) bytes
 
--- a line that asks for nothing, or for an event that is carried out
-abbrev pub IsLineOf : List ℕ → Option Event → Type 0
-IsLineOf line None = IsSilent line
-IsLineOf line (Some event) = IsEventOf event line × (is_carried event ≡ true)
-
--- a line that is neither silent nor an event that is carried out
+-- a line of which nothing is read: it is neither silent nor an event of the grammar
 abbrev pub IsBadLine : List ℕ → Type 0
-IsBadLine line = (read : Option Event) → IsLineOf line read → ⊥
+IsBadLine line = (read : Option Event) → IsReadOf read line → ⊥
 
 -- the lines ask for these events, in order
 abbrev pub AreLinesOf : List (List ℕ) → List Event → Type 0
 AreLinesOf [] events = events ≡ []
 AreLinesOf (line ∷ lines) events =
-    (read : Option Event) × (rest : List Event) × HasNoLineFeed line × IsLineOf line read × (events ≡ option_to_list read ++ rest) × AreLinesOf lines rest
+    (read : Option Event) × (rest : List Event) × HasNoLineFeed line × IsReadOf read line × (events ≡ option_to_list read ++ rest) × AreLinesOf lines rest
 
 -- the last line may lack its line feed; where nothing stands after the last one, there is no further line
 abbrev pub last_line : List ℕ → List (List ℕ)
@@ -48,7 +42,7 @@ pub record IsWholeSchedule (limit : ℕ) (bytes : List ℕ) (events : List Event
   pub below : length bytes < limit
   pub are_lines : AreLinesOf (lines ++ last_line last) events
 
--- whole lines from the beginning on ask for these events; what is left begins with a line that isn't carried out, the one of this number; the limit isn't reached before that is seen
+-- whole lines from the beginning on ask for these events; what is left begins with a line that is none of the grammar, the one of this number; the limit isn't reached before that is seen
 pub record HasBadLine (limit : ℕ) (bytes : List ℕ) (events : List Event) (number : ℕ) : Type 0 where
   pub lines : List (List ℕ)
   pub rest : List ℕ
@@ -83,7 +77,7 @@ pub record HasComeTo (bytes : List ℕ) (events : List Event) (event : Event) : 
   pub rest : List ℕ
   pub all : bytes ≡ text_of lines ++ (line ++ rest)
   pub are_lines : AreLinesOf lines events
-  pub is_line : IsLineOf line (Some event)
+  pub is_line : IsEventOf event line
 
 -- these events were read: whole lines ask for them, or whole lines and one more, or all the lines that there are
 abbrev pub IsReadSoFar : ℕ → List ℕ → List Event → Type 0

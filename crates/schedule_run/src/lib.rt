@@ -10,5 +10,5 @@ mod showing;
 mod split;
 
 pub use laws::{a_lawful_report_keeps_the_headline, a_run_begins};
-pub use machine::{Machine, can_carry_out, can_serve};
+pub use machine::{Machine, can_serve};
 pub use schedule::{RunStop, run};

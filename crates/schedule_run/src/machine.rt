@@ -2,10 +2,10 @@
 ghost use Rattle.std.specs.Prelude.{◌≡◌, ◌+◌, ◌++◌, ◌∷◌, [], ◌<◌, ◌^◌, true, List, length, Some, IfOk, OnOk};
 ghost use Rattle.blk_base.specs.Options.{Options};
 ghost use Rattle.blk_io.specs.Disk.{HasLength, attached_of};
-ghost use Rattle.schedule_text.specs.Event.{is_number};
+ghost use Rattle.schedule_text.specs.Event.{is_event_allowed};
 ghost use Rattle.schedule_text.specs.declared.event.Event.{Event};
 ghost use Rattle.vbd_model.specs.World.{start_of};
-ghost use Rattle.vbd_model.specs.Kind.{AreOf, AreOfSoFar, Makes, MakesSoFar, is_carried, are_carried};
+ghost use Rattle.vbd_model.specs.Kind.{AreOf, AreOfSoFar, Makes, MakesSoFar, are_carried};
 ghost use Rattle.vbd_model.specs.Leads.{Goes, moment};
 ghost use Rattle.schedule_run.specs.Outcome.{Outside, HasCarried, IsServed, content_of};
 ghost use Rattle.schedule_run.specs.Lawful.{EventLeaves};
@@ -14,7 +14,6 @@ ghost use Rattle.schedule_run.specs.Machine.{WaitsByCauses};
 use crate::split::Split;
 use blk_base::{Config, OutOfMemory};
 use blk_io::SectorDisk;
-use line_text::{is_key_name, is_key_text};
 use schedule_text::{Event, RecordStop, Recorder};
 use std::alloc::Global;
 use std::marker::Model;
@@ -59,10 +58,10 @@ impl Machine {
         self.events
     }
 
-    /// Carries out an event, and gives the recorder the lines of all that happens. The event is one
-    /// for which `can_carry_out` holds. After a stop, what was done before it stands, and the lines
-    /// before the one at which the recorder stopped. Each call of the disk is the one that a job asks
-    /// for, and what it answered completes the job's ask.
+    /// Carries out an event, and gives the recorder the lines of all that happens. The event is one of
+    /// the grammar, as each that `schedule_text::read_event` gives is. After a stop, what was done
+    /// before it stands, and the lines before the one at which the recorder stopped. Each call of the
+    /// disk is the one that a job asks for, and what it answered completes the job's ask.
     ///
     /// Whoever makes a machine, adds a `begin` line with its options (`a_run_begins`) and then carries
     /// out events has a lawful report after each of them, where disk and recorder expose what they
@@ -75,7 +74,7 @@ impl Machine {
         disk: &mut D,
         recorder: &mut R,
     ) -> Result<(), RecordStop>
-        requires carried { is_carried event ≡ true }
+        requires allowed { is_event_allowed event ≡ true }
         requires few { self.old.events < 10 ^ 9 }
         requires attached { attached_of (D.seen disk.old) ≡ Some self.old.world.rings.back.jobs.info.sectors }
         ensures goes { Goes (AreOf event self.old.world) (AreOfSoFar event self.old.world) (10 ^ 10) result
@@ -98,7 +97,7 @@ impl Machine {
         disk: &mut D,
         recorder: &mut R,
     ) -> Result<(), RecordStop>
-        requires carried { is_carried event ≡ true }
+        requires allowed { is_event_allowed event ≡ true }
         requires few { self.old.events < 10 ^ 9 }
         requires attached { attached_of (D.seen disk.old) ≡ Some self.old.world.rings.back.jobs.info.sectors }
         ensures goes { Goes (Makes event self.old.world) (MakesSoFar event self.old.world) (10 ^ 10) result
@@ -135,30 +134,4 @@ pub fn can_serve(config: &Config) -> bool
     ensures { result ≡ are_carried config.now }
 {
     config.persistent == 0 && config.indirect <= 960
-}
-
-/// Whether an event is one that the machine carries out, with the numbers of the grammar: a
-/// submission, moves of the front, of the back or of a job, rounds, settling, a look, a close of an
-/// end, a spurious event, a word or a key that a hostile hand overwrites, a suspend, and a dump.
-pub fn can_carry_out(event: &Event) -> bool
-    ensures { result ≡ is_carried event.now }
-{
-    match *event {
-        Event::Submit(_) => true,
-        Event::Front(n) | Event::Back(n) | Event::Turn(n) => is_number(n),
-        Event::Job { number, moves } => is_number(number) && is_number(moves),
-        Event::Settle | Event::Look | Event::Dump => true,
-        Event::Notify(_) | Event::Close(_) | Event::Suspend => true,
-        Event::Poke { frame, word, .. } => frame < 1024 && word < 1024,
-        Event::Key { name, text } => {
-            is_key_name(name.as_str().as_bytes()) && is_key_text(text.as_str().as_bytes())
-        }
-    }
-}
-
-// Whether a number is 1 to 1000000.
-fn is_number(n: u32) -> bool
-    ensures { result ≡ is_number n }
-{
-    n > 0 && n <= 1_000_000
 }

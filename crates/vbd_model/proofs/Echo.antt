@@ -5,6 +5,7 @@ use Rattle.std.specs.List.{AllByRecursion}
 use Rattle.blk_base.specs.declared.parts.End.TheVariants as end
 use Rattle.blk_front.specs.Submit as front_submit
 use Rattle.schedule_text.specs.declared.event.Event.{Event}
+use Rattle.schedule_text.specs.Event.{is_event_allowed}
 use Rattle.schedule_text.specs.declared.event.Event.TheVariants as events
 use Rattle.schedule_text.specs.declared.line.Line.{Line}
 use Rattle.schedule_text.specs.declared.line.Line.TheVariants as lines
@@ -18,7 +19,7 @@ use Rattle.vbd_front.specs.Ask as front
 use Rattle.vbd_back.specs.Ask as back
 use Rattle.vbd_model.specs.World.{World, is_quiet, frontend_of, backend_of}
 use Rattle.vbd_model.specs.Happening.{Happening, FrontMoves, BackMoves, Closes, Submits, Pokes, OverwritesKey, Suspends, Dumps, Looks, Settles, front_key, entered_at, halted_at, front_enters, back_halts, back_negotiates, back_bus_after, attaches, front_turn, back_turn, is_fronts_ring, is_backs_ring, does, happens, after, lines_of, all_does}
-use Rattle.vbd_model.specs.Kind.{is_carried, Makes, AreOf, AreOfAll, AreJobMoves, AreEachJobs, round_start, IsRound, AreRounds, never}
+use Rattle.vbd_model.specs.Kind.{Makes, AreOf, AreOfAll, AreJobMoves, AreEachJobs, round_start, IsRound, AreRounds, never}
 use Rattle.split_model.specs.World as rings
 use Rattle.split_model.proofs.Narrow.{after_narrow}
 use Rattle.vbd_model.proofs.Running.{lines_of-append, lines_lift, after_rings}
@@ -134,7 +135,7 @@ shows_same : (w : World) (h : Happening) (x : ring.Happening) (hs : List Happeni
 shows_same w h x hs same all = ap (λ (l : List Happening). lines_of l w) all ∙ (lines_lift (h ∷ []) w ∙ ap (λ (l : List ring.Happening). ring.lines_of (l ++ []) w.rings) same)
 
 -- the lines of an event that echo are those that answer it
-made_echo : (order : ℕ) (e : Event) (w : World) (hs : List Happening) → (let v : rings.World = w.rings in v.front.shape.order) ≤ order → is_carried e ≡ true → Makes e w hs → Answers order e (echo_of (lines_of hs w))
+made_echo : (order : ℕ) (e : Event) (w : World) (hs : List Happening) → (let v : rings.World = w.rings in v.front.shape.order) ≤ order → is_event_allowed e ≡ true → Makes e w hs → Answers order e (echo_of (lines_of hs w))
 made_echo order (events.Submit job) w hs narrow c k =
     let a = submit_answers job (front_submit.submit_of w.rings.front job).0 in
     (a.0, ap echo_of (shows_same w (Submits job) (ring.Submits job) hs refl k.0) ∙ a.1, a.2)

@@ -4,12 +4,13 @@ use Rattle.std.specs.Prelude.{replicate}
 use Rattle.blk_base.specs.declared.config.Submission.{Submission}
 use Rattle.blk_base.specs.declared.config.Submission.TheVariants as submissions
 use Rattle.schedule_text.specs.declared.event.Event.{Event}
+use Rattle.schedule_text.specs.Event.{is_event_allowed}
 use Rattle.schedule_text.specs.declared.event.Event.TheVariants as events
 use Rattle.schedule_text.specs.Range.{SubmissionHasWidths}
 use Rattle.machine_pipeline.specs.Allowed.{IsServable}
 use Rattle.vbd_model.specs.World.{World, is_quiet}
 use Rattle.vbd_model.specs.Happening.{Happening, FrontMoves, BackMoves, Submits, Pokes, OverwritesKey, Suspends, Looks, Settles, happens, after}
-use Rattle.vbd_model.specs.Kind.{is_carried, Makes, MakesSoFar, AreJobMoves, AreEachJobs, round_start, IsBeginning, IsRoundSoFar, AreRounds, never, settle_bound, AreRoundsSoFar, IsSettling, IsSettlingSoFar, AreOf, AreOfSoFar, AreOfAll}
+use Rattle.vbd_model.specs.Kind.{Makes, MakesSoFar, AreJobMoves, AreEachJobs, round_start, IsBeginning, IsRoundSoFar, AreRounds, never, settle_bound, AreRoundsSoFar, IsSettling, IsSettlingSoFar, AreOf, AreOfSoFar, AreOfAll}
 use Rattle.vbd_model.specs.Possible.{IsPossible, ArePossible}
 
 -- what is possible after what is, and the first part of it
@@ -94,7 +95,7 @@ some_sectors (submissions.Discard sector count) widths = let some = widths.1 in 
 only : (h : Happening) (w : World) (hs : List Happening) → IsPossible w h → hs ≡ h ∷ [] → ArePossible hs w
 only h w hs may all = as_possible hs (h ∷ []) w all (may, tt)
 
-made_possible : (e : Event) (w : World) (hs : List Happening) → is_carried e ≡ true → Makes e w hs → ArePossible hs w
+made_possible : (e : Event) (w : World) (hs : List Happening) → is_event_allowed e ≡ true → Makes e w hs → ArePossible hs w
 made_possible (events.Submit job) w hs carried k = only (Submits job) w hs (some_sectors job k.1) k.0
 made_possible (events.Front n) w hs carried k = as_possible hs (replicate n FrontMoves) w k (fronts_possible n w)
 made_possible (events.Back n) w hs carried k = as_possible hs (replicate n BackMoves) w k (backs_possible n w)
@@ -107,7 +108,7 @@ made_possible (events.Poke frame word value) w hs carried k = as_possible hs (Po
 made_possible (events.Key name text) w hs carried k = only (OverwritesKey name text) w hs carried k
 made_possible e w hs carried k = only _ w hs tt k
 
-made_so_far_possible : (e : Event) (w : World) (hs : List Happening) → is_carried e ≡ true → MakesSoFar e w hs → ArePossible hs w
+made_so_far_possible : (e : Event) (w : World) (hs : List Happening) → is_event_allowed e ≡ true → MakesSoFar e w hs → ArePossible hs w
 made_so_far_possible (events.Front n) w hs carried k = beginning_possible hs (replicate n FrontMoves) w k (fronts_possible n w)
 made_so_far_possible (events.Back n) w hs carried k = beginning_possible hs (replicate n BackMoves) w k (backs_possible n w)
 made_so_far_possible (events.Job number n) w hs carried k = jobs_possible number hs w k.0

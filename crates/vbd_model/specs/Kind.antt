@@ -2,7 +2,7 @@
 use Rattle.std.specs.Prelude.{◌≡◌, ℕ, zero, suc, ◌+◌, ◌*◌, ◌^◌, ◌≤◌, ◌<◌, ◌⊎◌, Bool, true, false, ◌&&◌, List, [], ◌∷◌, ◌++◌, replicate, length, Some, None, ◌==◌, nat_le}
 use Rattle.blk_base.specs.Options.{Options}
 use Rattle.hypervisor.specs.Act.{Outcome, IsGiven}
-use Rattle.schedule_text.specs.Event.{is_number}
+use Rattle.schedule_text.specs.Event.{is_event_allowed}
 use Rattle.schedule_text.specs.Range.{SubmissionHasWidths}
 use Rattle.schedule_text.specs.declared.event.Event.{Event}
 use Rattle.schedule_text.specs.declared.event.Event.TheVariants as events
@@ -10,28 +10,11 @@ use Rattle.blk_front.specs.Submit.{unfinished, sectors_owed}
 use Rattle.blk_back.specs.Step.{next_job_of}
 use Rattle.vbd_model.specs.World.{World, is_quiet}
 use Rattle.split_model.specs.World.{may_suspend}
-use Rattle.split_model.specs.Happening.{is_guest_word, is_guest_key}
 use Rattle.vbd_model.specs.Happening.{Happening, FrontMoves, BackMoves, JobMoves, Closes, Submits, Notifies, Pokes, OverwritesKey, Suspends, Dumps, Looks, Settles, happens, after}
 
 -- the options that are carried out: either layout, a ring of 1 to 16 pages from any start, indirect requests of up to 960 segments, and a disk of any size, read-only or not
 abbrev pub are_carried : Options → Bool
 are_carried o = (o.persistent == 0) && nat_le o.indirect 960
-
--- the events that are carried out: all, with the numbers of the grammar
-abbrev pub is_carried : Event → Bool
-is_carried (events.Submit job) = true
-is_carried (events.Front n) = is_number n
-is_carried (events.Back n) = is_number n
-is_carried (events.Job number n) = is_number number && is_number n
-is_carried (events.Turn n) = is_number n
-is_carried events.Settle = true
-is_carried events.Look = true
-is_carried (events.Notify at) = true
-is_carried events.Suspend = true
-is_carried (events.Close at) = true
-is_carried (events.Poke frame word value) = is_guest_word frame word
-is_carried (events.Key name text) = is_guest_key name text
-is_carried events.Dump = true
 
 -- moves of one job, each with what the disk answers it
 abbrev pub AreJobMoves : ℕ → List Happening → Type 0
@@ -164,13 +147,13 @@ MakesSoFar events.Settle w hs = IsSettlingSoFar w hs
 MakesSoFar events.Suspend w hs = IsSuspendSoFar w hs
 MakesSoFar event w hs = Makes event w hs
 
--- the happenings of an event
+-- the happenings of an event: each that the grammar allows is carried out
 abbrev pub AreOf : Event → World → List Happening → Type 0
-AreOf event w hs = (is_carried event ≡ true) × Makes event w hs
+AreOf event w hs = (is_event_allowed event ≡ true) × Makes event w hs
 
 -- its happenings so far
 abbrev pub AreOfSoFar : Event → World → List Happening → Type 0
-AreOfSoFar event w hs = (is_carried event ≡ true) × MakesSoFar event w hs
+AreOfSoFar event w hs = (is_event_allowed event ≡ true) × MakesSoFar event w hs
 
 -- the happenings of a schedule, event by event
 abbrev pub AreOfAll : List Event → World → List Happening → Type 0

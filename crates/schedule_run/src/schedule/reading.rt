@@ -1,15 +1,14 @@
 // The schedule's bytes as they come.
-ghost use Rattle.std.specs.Prelude.{◌≡◌, ◌≤◌, ◌∷◌, [], OnErr, IfOk, Some, length};
+ghost use Rattle.std.specs.Prelude.{◌≡◌, ◌≤◌, ◌∷◌, [], Some, length};
 ghost use Rattle.blk_io.specs.Disk.{attached_of};
 ghost use Rattle.vbd_model.specs.Leads.{moment};
-ghost use Rattle.schedule_run.specs.Reading.{IsLineOf, IsBadLine};
 ghost use Rattle.schedule_run.specs.Carrying.{read_so_far, IsFresh, IsReadyToTake, Feeds, Finishes, Takes, ReadsHandedOn, ReadsAll};
 
 use super::{RunStop, stop_of};
-use crate::machine::{Machine, can_carry_out};
+use crate::machine::Machine;
 use arrayvec::ArrayVec;
 use blk_io::{Failed, SectorDisk, Source};
-use schedule_text::{BadLine, Event, Recorder, read_event};
+use schedule_text::{BadLine, Recorder, read_event};
 
 // How many bytes are asked of the source at once.
 const PIECE: usize = 4096;
@@ -124,7 +123,7 @@ impl Reader {
             (read_so_far self.new.machine self.new.part.items self.new.lines (D.seen disk.new) (R.seen recorder.new)) }
     {
         let number = self.lines + 1;
-        let event = match line_event(self.part.as_slice()) {
+        let event = match read_event(self.part.as_slice()) {
             Ok(event) => event,
             Err(BadLine) => return Err(RunStop::BadLine(number)),
         };
@@ -136,23 +135,6 @@ impl Reader {
         self.part.clear();
         self.lines = number;
         Ok(())
-    }
-}
-
-// The event of a line, if it is one that is carried out.
-fn line_event(line: &[u8]) -> Result<Option<Event>, BadLine>
-    ensures found { IfOk result (λ read. IsLineOf line.now read) }
-    ensures bad { OnErr result (IsBadLine line.now) }
-{
-    match read_event(line)? {
-        None => Ok(None),
-        Some(event) => {
-            if can_carry_out(&event) {
-                Ok(Some(event))
-            } else {
-                Err(BadLine)
-            }
-        }
     }
 }
 

@@ -2,14 +2,14 @@
 ghost use Rattle.std.specs.Prelude.{◌≡◌, true, Some};
 ghost use Rattle.blk_io.specs.Disk.{attached_of};
 ghost use Rattle.image_disk.specs.Image.{image_seen};
-ghost use Rattle.vbd_model.specs.Kind.{is_carried};
+ghost use Rattle.schedule_text.specs.Event.{is_event_allowed};
 
 use super::report::{attached, plain_config, zeros};
 use crate::expected::{holds, same};
-use blk_base::{End, SectorCount, Submission};
+use blk_base::End;
 use blk_io::SectorDisk;
 use image_disk::MemoryDisk;
-use schedule_run::{Machine, can_carry_out};
+use schedule_run::Machine;
 use schedule_text::{Detail, Event, Line, LineList, RecordStop, Recorder};
 use std::alloc::Global;
 use std::process::Abort;
@@ -23,7 +23,7 @@ enum Step {
 }
 
 fn event_of(step: Step) -> Event
-    ensures { is_carried result ≡ true }
+    ensures { is_event_allowed result ≡ true }
 {
     match step {
         Step::Looks => Event::Look,
@@ -104,27 +104,4 @@ fn tells_an_epoch(rt: &impl Abort, alloc: Global, steps: &[Step]) {
 #[test]
 fn a_suspend_that_lacks_memory_tells_no_epoch(rt: HostRuntime) {
     tells_an_epoch(&rt, rt.alloc(), &[Step::Suspends]);
-}
-
-fn may_be(rt: &impl Abort, event: Event, wanted: bool) {
-    same(rt, can_carry_out(&event), wanted);
-}
-
-#[test]
-fn events_within_the_numbers_of_the_grammar_can_be_carried_out(rt: HostRuntime) {
-    let count = SectorCount::new(4294967295).expect(&rt, "a count above 0");
-    may_be(
-        &rt,
-        Event::Submit(Submission::Read { sector: 0, count }),
-        true,
-    );
-    may_be(
-        &rt,
-        Event::Submit(Submission::Discard { sector: 0, count }),
-        true,
-    );
-    may_be(&rt, Event::Submit(Submission::Flush), true);
-    may_be(&rt, Event::Suspend, true);
-    may_be(&rt, Event::Turn(1000001), false);
-    may_be(&rt, Event::Close(End::Back), true);
 }

@@ -63,7 +63,7 @@ returns-in-Close-clause-goes g c = rw (c.in-Close.is, ← c.self.view_is) (goes_
 pub invariant_of-self-in-Back : goal.invariant_of-self-in-Back
 invariant_of-self-in-Back g c =
     let few : c.self.inside.events < 10 ^ 9 = subst (λ (m : Run). m.events < 10 ^ 9) (sym c.self.view_is) c.requires.few in
-    let short : c.in-Back.count ≤ 1000000 = back_few c.args.event c.in-Back.count c.requires.carried c.in-Back.is in
+    let short : c.in-Back.count ≤ 1000000 = back_few c.args.event c.in-Back.count c.requires.allowed c.in-Back.is in
     runs_on _ _ (41 * c.in-Back.count) _ _ _ c.self.inside.events (omega (arith, short)) few c.back_moves.ensures c.self.invariant
 
 pub invariant_of-self-in-Job : goal.invariant_of-self-in-Job
@@ -74,7 +74,7 @@ invariant_of-self-in-Job g c =
 pub invariant_of-self-in-Turn : goal.invariant_of-self-in-Turn
 invariant_of-self-in-Turn g c =
     let few : c.self.inside.events < 10 ^ 9 = subst (λ (m : Run). m.events < 10 ^ 9) (sym c.self.view_is) c.requires.few in
-    let short : c.in-Turn.count ≤ 1000000 = turn_few c.args.event c.in-Turn.count c.requires.carried c.in-Turn.is in
+    let short : c.in-Turn.count ≤ 1000000 = turn_few c.args.event c.in-Turn.count c.requires.allowed c.in-Turn.is in
     runs_on _ _ (42 * c.in-Turn.count) _ _ _ c.self.inside.events (omega (arith, short)) few c.turn.ensures c.self.invariant
 
 pub settle-requires-clause-owing : goal.settle-requires-clause-owing
