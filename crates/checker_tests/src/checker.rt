@@ -1,10 +1,11 @@
 // Whole reports by hand, and what the checker finds.
 use crate::given::bytes_of;
 use blk_io::{FailsAt, MemorySource};
+use checked_rules::Rule;
 use line_text::LineText;
 use std::alloc::Global;
 use std::process::Abort;
-use trace_check::{CheckStop, Finding, Rule, check, write_finding};
+use trace_check::{CheckStop, Finding, check, write_finding};
 
 // A report, how many bytes may be taken, and what is found.
 struct Case {

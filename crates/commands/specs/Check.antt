@@ -1,7 +1,7 @@
 -- What the command `check` leaves and says: what a check of the report finds (`trace_check`).
 use Rattle.std.specs.Prelude.{◌≡◌, ℕ, ◌⊎◌, Result, Ok, Err}
 use Rattle.blk_io.specs.Outside.{SourceSeen, SinkSeen, TakesBytes}
-use Rattle.trace_check.specs.declared.rule.Rule.{Rule}
+use Rattle.checked_rules.specs.declared.rule.Rule.{Rule}
 use Rattle.trace_check.specs.declared.finding.Finding.{Finding}
 use Rattle.trace_check.specs.declared.finding.Finding.TheVariants as finding
 use Rattle.trace_check.specs.declared.finding.CheckStop.{CheckStop}

@@ -12,12 +12,12 @@ use Rattle.report_rules.proofs.Obeys.{obeys_before}
 use Rattle.report_lines.specs.Text.{HasBadText, first_line, IsReportText}
 use Rattle.report_lines.specs.Giving.{Tells}
 use Rattle.report_lines.proofs.Feeds.{first_line_whole}
-use Rattle.trace_check.specs.declared.rule.Rule.{Rule}
+use Rattle.checked_rules.specs.declared.rule.Rule.{Rule}
 use Rattle.trace_check.specs.declared.finding.Finding.{Finding}
 use Rattle.trace_check.specs.declared.finding.Finding.TheVariants.{Legal, Broken}
 use Rattle.trace_check.specs.declared.finding.CheckStop.{CheckStop}
 use Rattle.trace_check.specs.declared.finding.CheckStop.TheVariants.{BadLine, Source, TooLong, OutOfMemory}
-use Rattle.trace_check.specs.Rules.{Keeps, KeepsEach, KeepsAll, Breaks, all_rules}
+use Rattle.checked_rules.specs.Rules.{Keeps, KeepsEach, KeepsAll, Breaks, all_rules}
 use Rattle.trace_check.specs.Found.{EndsWell, IsBrokenAt, LacksEnd, IsFound, IsBadAt, IsLong, Finds}
 use Rattle.legal_laws.specs.Found.{FindsLegal}
 use Rattle.legal_laws.proofs.Lists.{all_there}

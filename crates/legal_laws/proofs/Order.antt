@@ -15,8 +15,8 @@ use Rattle.schedule_text.specs.declared.line.Line.TheVariants as lines
 use Rattle.plain_disk.specs.Echo.{is_echo, AnswersSubmit, AnswersSettle, AnswersLook, AreRingWords, Answers, AnswersAll, Echoes}
 use Rattle.report_rules.specs.Obeys.{Obeys}
 use Rattle.report_rules.proofs.Obeys.{obeys_more}
-use Rattle.trace_check.specs.Outline.{is_begin, shows_moves, is_end, is_move}
-use Rattle.trace_check.specs.Rules.{IsOrderAt}
+use Rattle.checked_rules.specs.Lines.{is_begin, shows_moves, is_end, is_move}
+use Rattle.checked_rules.specs.Rules.{IsOrderAt}
 use Rattle.legal_laws.specs.Order.{IsBody}
 use Rattle.legal_laws.proofs.Lists.{all_there, all_before}
 

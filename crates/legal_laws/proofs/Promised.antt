@@ -1,29 +1,23 @@
 -- What a run promises of its report makes it legal.
-use Rattle.std.proofs.Common.{◌≡◌, ◌||◌, ℕ, Bool, true, false, List, [], ◌∷◌, refl, ap, sym, subst, ◌∙◌, true≢false}
+use Rattle.std.proofs.Common.{◌≡◌, ℕ, List, sym, subst}
 use Rattle.std.specs.Prelude.{Some, Result, All, filter}
-use Rattle.std.specs.List.{list_any}
-use Rattle.std.proofs.lemmas.List.Elements.{All-weaker, All-head, All-tail}
+use Rattle.std.proofs.lemmas.List.Elements.{All-weaker}
 use Rattle.blk_base.specs.Options.{Options}
 use Rattle.blk_base.specs.declared.config.Submission.{Submission}
 use Rattle.blk_base.specs.declared.config.Submission.TheVariants as submissions
 use Rattle.blk_io.specs.Outside.{SourceSeen}
 use Rattle.schedule_text.specs.declared.event.Event.{Event}
 use Rattle.schedule_text.specs.declared.line.Detail.{Detail}
-use Rattle.schedule_text.specs.declared.line.Detail.TheVariants.{Lines, Moves}
 use Rattle.schedule_text.specs.declared.line.Line.{Line}
-use Rattle.schedule_text.specs.declared.line.Line.TheVariants as lines
 use Rattle.schedule_text.specs.Range.{SubmissionHasWidths, IsInRange}
 use Rattle.schedule_text.specs.Recorder.{report_text}
 use Rattle.plain_disk.specs.Echo.{is_echo, AnswersAll, Echoes}
 use Rattle.report_rules.specs.Obeys.{Obeys}
 use Rattle.request_check.specs.Rules.{CanBeAsked}
-use Rattle.trace_check.specs.Outline.{is_begin, shows_moves}
-use Rattle.trace_check.specs.Rules.{IsOrderAt, KeepsAll}
+use Rattle.checked_rules.specs.Rules.{IsOrderAt, KeepsAll}
 use Rattle.trace_check.specs.declared.finding.Finding.{Finding}
 use Rattle.trace_check.specs.declared.finding.CheckStop.{CheckStop}
 use Rattle.trace_check.specs.Found.{EndsWell, Finds}
-use Rattle.trace_check.proofs.Outlines.{only_begin_shows}
-use Rattle.legal_laws.specs.Order.{IsBody}
 use Rattle.legal_laws.specs.Found.{FindsLegal}
 use Rattle.legal_laws.specs.Promised.{IsPromised}
 use Rattle.plain_disk.specs.Honest.{honest_part}
@@ -44,25 +38,12 @@ job_asked (submissions.Discard sector count) w = (w.0, w.1.0, w.1.1)
 pub jobs_asked : (jobs : List Submission) → All SubmissionHasWidths jobs → All CanBeAsked jobs
 jobs_asked jobs widths = All-weaker SubmissionHasWidths CanBeAsked job_asked jobs widths
 
--- ---- where moves are shown
-
-unshown : (rest : List Line) → All (λ (line : Line). is_begin line ≡ false) rest → list_any shows_moves rest ≡ false
-unshown [] once = refl
-unshown (line ∷ rest) once =
-    ap (λ (b : Bool). b || list_any shows_moves rest) (only_begin_shows line (All-head (λ (x : Line). is_begin x ≡ false) line rest once))
-    ∙ unshown rest (All-tail (λ (x : Line). is_begin x ≡ false) line rest once)
-
-pub shown_says : (config : Options) (detail : Detail) (rest : List Line) → IsBody detail rest → list_any shows_moves (lines.Begin config detail ∷ rest) ≡ true → detail ≡ Moves
-shown_says config Moves rest body shown = refl
-shown_says config Lines rest body shown = absurd (true≢false (sym shown ∙ unshown rest body.once))
-
 -- ---- all of it
 
 by_order : (config : Options) (detail : Detail) (jobs : List Submission) (report : List Line)
     → IsPromised config detail jobs report → Obeys IsOrderAt report → Obeys KeepsAll report
 by_order config detail jobs report p order =
-    honest_part_legal report order (so_far_kept jobs p.run.0 p.run.1 (honest_part report) p.run.2 p.submissions p.states p.asked p.settled)
-    (λ shown. p.moves (shown_says config detail p.rest p.body (ap (list_any shows_moves) (sym p.first) ∙ shown)))
+    honest_part_legal report order (so_far_kept jobs p.run.0 p.run.1 (honest_part report) p.run.2 p.submissions p.states p.asked p.settled) p.moves
 
 pub promised_so_far_legal : (config : Options) (detail : Detail) (events : List Event) (jobs : List Submission) (report : List Line)
     → IsPromised config detail jobs report → AnswersAll config.order events (filter is_echo report) → Obeys KeepsAll report

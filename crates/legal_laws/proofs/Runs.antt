@@ -8,7 +8,7 @@ use Rattle.schedule_text.specs.declared.line.Line.{Line}
 use Rattle.report_rules.specs.Obeys.{Obeys}
 use Rattle.machine_pipeline.specs.Submissions.{jobs_of}
 use Rattle.schedule_text.specs.Recorder.{report_text}
-use Rattle.trace_check.specs.Rules.{KeepsAll}
+use Rattle.checked_rules.specs.Rules.{KeepsAll}
 use Rattle.trace_check.specs.Found.{EndsWell}
 use Rattle.legal_laws.specs.Promised.{IsPromised, IsFoundLegal}
 use Rattle.legal_laws.proofs.Promised.{jobs_asked, promised_legal, promised_found_legal}
@@ -27,17 +27,7 @@ promised config detail events before now report r =
       asked = jobs_asked (jobs_of events) r.widths;
       states = served.states;
       settled = r.lawful.settled;
-      moves = λ shown. record {
-        coherent = (r.lawful.moves shown).coherent;
-        touched = (r.lawful.moves shown).touched;
-        answered = (r.lawful.moves shown).answered;
-        stretches = (r.lawful.moves shown).stretches;
-        steps = (r.lawful.work shown).steps;
-        effects = (r.lawful.work shown).effects;
-        data_given = (r.lawful.work shown).data_given;
-        replies = (r.lawful.work shown).replies;
-        overruns = (r.lawful.moves shown).overruns;
-      };
+      moves = r.lawful.rules;
     }
 
 pub lawful_kept : (config : Options) (detail : Detail) (events : List Event) (before now : Option (List (List ℕ))) (report : List Line)

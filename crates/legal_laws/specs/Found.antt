@@ -9,7 +9,7 @@ use Rattle.trace_check.specs.declared.finding.Finding.TheVariants.{Legal}
 use Rattle.trace_check.specs.declared.finding.CheckStop.{CheckStop}
 use Rattle.trace_check.specs.declared.finding.CheckStop.TheVariants.{BadLine, Source, TooLong, OutOfMemory}
 use Rattle.report_rules.specs.Obeys.{Obeys}
-use Rattle.trace_check.specs.Rules.{KeepsAll}
+use Rattle.checked_rules.specs.Rules.{KeepsAll}
 use Rattle.trace_check.specs.Found.{EndsWell, Finds}
 
 -- a check finds it legal, unless it stops before its end: where the source failed, where it has as many bytes as may be taken, or for want of memory

@@ -8,8 +8,8 @@ use Rattle.schedule_text.specs.declared.line.Line.{Line}
 use Rattle.schedule_text.specs.declared.line.Line.TheVariants as lines
 use Rattle.plain_disk.specs.Echo.{is_echo, AnswersAll, Echoes}
 use Rattle.report_rules.specs.Obeys.{Obeys}
-use Rattle.trace_check.specs.Outline.{is_begin, is_move}
-use Rattle.trace_check.specs.Rules.{IsOrderAt}
+use Rattle.checked_rules.specs.Lines.{is_begin, is_move}
+use Rattle.checked_rules.specs.Rules.{IsOrderAt}
 
 -- after `begin` no line begins anew, and none shows a move but where `begin` says so
 pub record IsBody (detail : Detail) (rest : List Line) : Type 0 where

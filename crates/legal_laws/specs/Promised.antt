@@ -5,7 +5,6 @@ use Rattle.blk_base.specs.declared.config.Submission.{Submission}
 use Rattle.blk_io.specs.Outside.{SourceSeen}
 use Rattle.schedule_text.specs.declared.event.Event.{Event}
 use Rattle.schedule_text.specs.declared.line.Detail.{Detail}
-use Rattle.schedule_text.specs.declared.line.Detail.TheVariants.{Moves}
 use Rattle.schedule_text.specs.declared.line.Line.{Line}
 use Rattle.schedule_text.specs.declared.line.Line.TheVariants as lines
 use Rattle.schedule_text.specs.Range.{SubmissionHasWidths, IsInRange}
@@ -18,12 +17,11 @@ use Rattle.plain_disk.specs.Step.{after}
 use Rattle.pipeline_laws.specs.Submissions.{IsAnswerAt}
 use Rattle.pipeline_laws.specs.States.{AreStates}
 use Rattle.request_check.specs.Rules.{CanBeAsked}
-use Rattle.trace_check.specs.Rules.{KeepsAll}
+use Rattle.checked_rules.specs.Rules.{KeepsAll, ObeysEach, move_rules}
 use Rattle.trace_check.specs.declared.finding.Finding.{Finding}
 use Rattle.trace_check.specs.declared.finding.CheckStop.{CheckStop}
 use Rattle.trace_check.specs.Found.{EndsWell, Finds}
 use Rattle.report_laws.specs.Settled.{IsSettled}
-use Rattle.legal_laws.specs.Legal.{KeepsMoves}
 use Rattle.legal_laws.specs.Order.{IsBody}
 use Rattle.legal_laws.specs.Found.{FindsLegal}
 
@@ -36,7 +34,7 @@ abbrev pub RunsOnADisk : List Line → Type 0
 RunsOnADisk report = (first : List (List ℕ)) × (disk : Disk) × (after report (disk_of first) ≡ Some disk)
 
 -- a report of a run: before a hostile hand first touched it, it is a run of the plain disk, and answers these submissions, as its earlier lines say;
--- the front's states come in order, and no `settle` ran out of rounds; and where it shows the moves, they all keep the rules
+-- the front's states come in order, and no `settle` ran out of rounds; and the moves that it shows keep the rules on them
 pub record IsPromised (config : Options) (detail : Detail) (jobs : List Submission) (report : List Line) : Type 0 where
   pub rest : List Line
   pub first : report ≡ lines.Begin config detail ∷ rest
@@ -46,7 +44,7 @@ pub record IsPromised (config : Options) (detail : Detail) (jobs : List Submissi
   pub asked : All CanBeAsked jobs
   pub states : AreStates (honest_part report)
   pub settled : IsSettled (honest_part report)
-  pub moves : detail ≡ Moves → KeepsMoves report
+  pub moves : ObeysEach move_rules report
 
 -- of each such report
 abbrev pub OfPromised : (Options → Detail → List Event → List Line → Type 0) → Type 0

@@ -12,7 +12,7 @@ use Rattle.report_rules.specs.Obeys.{Obeys}
 use Rattle.pipeline_laws.specs.Effects.{IsOfADisk}
 use Rattle.machine_pipeline.specs.Submissions.{jobs_of}
 use Rattle.schedule_run.specs.Lawful.{IsLawful}
-use Rattle.trace_check.specs.Rules.{KeepsAll}
+use Rattle.checked_rules.specs.Rules.{KeepsAll}
 use Rattle.trace_check.specs.Found.{EndsWell}
 use Rattle.legal_laws.specs.Promised.{IsFoundLegal}
 

@@ -5,11 +5,14 @@ use Rattle.std.specs.List.{AllByRecursion, list_any, cons_option}
 use Rattle.std.proofs.lemmas.List.{append-nil}
 use Rattle.std.proofs.lemmas.List.Elements.{All-from_recursion}
 use Rattle.std.proofs.lemmas.Bool.{eqb-true}
+use Rattle.blk_base.specs.Options.{Options}
 use Rattle.blk_base.specs.declared.parts.Mode.{Mode}
 use Rattle.blk_base.specs.declared.parts.Mode.TheVariants.{ReadWrite}
 use Rattle.blk_base.specs.declared.moves.BackMover.{BackMover}
 use Rattle.blk_base.specs.declared.moves.Move.TheVariants as moves
 use Rattle.grant_table.specs.Entry.{is_for_writing}
+use Rattle.schedule_text.specs.declared.line.Detail.{Detail}
+use Rattle.schedule_text.specs.declared.line.Detail.TheVariants.{Lines, Moves}
 use Rattle.schedule_text.specs.declared.line.Line.{Line}
 use Rattle.schedule_text.specs.declared.line.Line.TheVariants as lines
 use Rattle.report_rules.specs.declared.standing.Standing.{Standing}
@@ -17,8 +20,13 @@ use Rattle.report_rules.specs.Obeys.{Obeys}
 use Rattle.report_rules.specs.Standing.{is_epoch, is_unmap_of, this_epoch, left_of, standing_after, numbered}
 use Rattle.report_rules.specs.Mapped.{IsMapAnswerAt, AreMapAnswers}
 use Rattle.report_rules.specs.Touch.{IsTouchAt, AreTouches}
+use Rattle.report_rules.specs.Overrun.{IsOverrunRule}
 use Rattle.report_rules.proofs.Obeys.{obeys_before}
 use Rattle.report_rules.proofs.Back.{epoch_more}
+use Rattle.checked_rules.specs.Rules.{move_rules, ObeysEach}
+use Rattle.checked_rules.specs.Shown.{OfShown}
+use Rattle.checked_rules.proofs.Shown as shown
+use Rattle.report_laws.specs.Begun.{IsBegun}
 use Rattle.schedule_run.specs.Headline.{WasGranted, IsGrantedAt, LawfulKeepsTheHeadline}
 
 abbrev IsWithin : Line → Type 0
@@ -153,10 +161,16 @@ are_granted : (report : List Line) → AreTouches report → AreMapAnswers repor
 are_granted report touches answers before after line split =
     granted_at before line (obeys_before IsMapAnswerAt before (line ∷ after) (subst AreMapAnswers split answers)) (touches before after line split)
 
+-- what the rules on moves say, where they are shown
+where_shown : (Claim : List Line → Type 0) → OfShown Claim → (config : Options) (detail : Detail) (report : List Line) → IsBegun config detail report → ObeysEach move_rules report → detail ≡ Moves → Claim report
+where_shown Claim of config Moves report begun rules same = subst Claim (sym begun.first) (of config begun.rest (subst (ObeysEach move_rules) begun.first rules))
+where_shown Claim of config Lines report begun rules same = absurd (cc)
+
 pub lawful_keeps : LawfulKeepsTheHeadline
 lawful_keeps config detail jobs before now report lawful = record {
-  granted = λ moves. let m = lawful.moves moves in are_granted report m.touched m.answered;
-  overruns = λ moves. let m = lawful.moves moves in m.overruns;
+  granted = λ moves.
+      are_granted report (where_shown AreTouches shown.touches config detail report lawful.begun lawful.rules moves) (where_shown AreMapAnswers shown.answers config detail report lawful.begun lawful.rules moves);
+  overruns = λ moves. where_shown IsOverrunRule shown.overruns config detail report lawful.begun lawful.rules moves;
   disk = λ honest of. let s = lawful.requests honest of in s.disk;
   once = λ honest of. let s = lawful.requests honest of in s.once;
   quiet = λ honest of. let s = lawful.requests honest of in s.quiet;

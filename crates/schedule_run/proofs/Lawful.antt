@@ -1,27 +1,32 @@
 -- The laws of the machine, of what a recorder keeps of a history's report.
 use Rattle.std.proofs.Common.{◌≡◌, ℕ, ◌^◌, ◌<◌, inl, inr, Bool, true, false, length, List, [], ◌∷◌, ◌++◌, Option, Some, None, refl, ap, sym, ◌∙◌, subst, arith, append_assoc, append-nil, length-append}
 use Rattle.std.specs.List.{list_all}
-use Rattle.std.proofs.lemmas.List.Elements.{All-nil, filter_map-append}
+use Rattle.std.proofs.lemmas.List.Elements.{All-nil, All-from_recursion, filter_map-append}
 use Rattle.line_text.proofs.Both.{both_true}
 use Rattle.blk_base.specs.Options.{Options}
 use Rattle.blk_io.specs.Disk.{DiskSeen, HasLength}
 use Rattle.schedule_text.specs.declared.line.Detail.{Detail}
-use Rattle.schedule_text.specs.declared.line.Detail.TheVariants.{Moves}
+use Rattle.schedule_text.specs.declared.line.Detail.TheVariants.{Lines, Moves}
 use Rattle.schedule_text.specs.declared.line.Line.{Line}
 use Rattle.schedule_text.specs.declared.line.Line.TheVariants.{Begin, End}
 use Rattle.plain_disk.specs.Honest.{is_honest, honest_part, IsHonest}
 use Rattle.plain_disk.proofs.Honest.{honest_more, honest_ends}
 use Rattle.report_rules.specs.Obeys.{Obeys}
+use Rattle.report_rules.specs.Coherent.{IsCoherentAt}
+use Rattle.report_rules.specs.Overrun.{IsOverrunAt}
 use Rattle.report_rules.proofs.Obeys.{obeys_none, obeys_more, obeys_before}
-use Rattle.move_laws.proofs.Recorded.{report_kept, ended_kept}
-use Rattle.move_laws.proofs.Runs.{report_obeys, ended_obeys, coherent_of, answers_of, touches_of, grantable_of}
-use Rattle.move_laws.proofs.Dumped.{report_dumped, ended_dumped}
+use Rattle.checked_rules.specs.declared.rule.Rule.{Rule}
+use Rattle.checked_rules.specs.Rules.{IsTouchRuleAt, IsFetchAt, Keeps, ObeysEach, move_rules}
+use Rattle.checked_rules.proofs.Listed.{each_before, each_none, kept_shown, unshown_obeys}
+use Rattle.move_laws.proofs.Recorded.{ended_kept}
+use Rattle.move_laws.proofs.Runs.{ended_obeys, coherent_of, answers_of, touches_of, grantable_of}
+use Rattle.move_laws.proofs.Dumped.{ended_dumped}
 use Rattle.move_laws.proofs.ReadOnly.{content_kept}
-use Rattle.ring_laws.proofs.JobRuns.{report_rules, ended_rules, steps_of, data_of, effects_of}
-use Rattle.ring_laws.proofs.MakerRuns.{report_unmaps, ended_unmaps, report_own, ended_own}
-use Rattle.ring_laws.proofs.ReplyRuns.{report_replies, ended_replies}
+use Rattle.ring_laws.proofs.JobRuns.{ended_rules, steps_of, data_of, effects_of}
+use Rattle.ring_laws.proofs.MakerRuns.{ended_unmaps, ended_own}
+use Rattle.ring_laws.proofs.ReplyRuns.{ended_replies}
 use Rattle.ring_laws.proofs.BackReads.{reads_of}
-use Rattle.ring_laws.proofs.Runs.{report_overruns, ended_overruns, report_stretches, ended_stretches, report_named, ended_named}
+use Rattle.ring_laws.proofs.Runs.{ended_overruns, ended_stretches, ended_named}
 use Rattle.pipeline_laws.specs.Run.{IsRun}
 use Rattle.disk_laws.specs.Run.{IsRunSoFar}
 use Rattle.pipeline_laws.specs.Answered.{AreAnsweredOnce, IsQuietAnswered}
@@ -73,91 +78,54 @@ use Rattle.refusal_laws.proofs.Kept.{kept_ruled}
 use Rattle.schedule_run.proofs.Wished.{possible_wished}
 use Rattle.schedule_run.proofs.FewReads.{IsBrief}
 use Rattle.schedule_run.proofs.Caused.{caused_before, nothing_caused}
-use Rattle.schedule_run.specs.Lawful.{ObeysMoves, ShowsWork, ServesRequests, ServesRequestsSoFar, HasCauses, IsLawful, IsLawfulSoFar}
+use Rattle.schedule_run.specs.Lawful.{ObeysMoves, ServesRequests, ServesRequestsSoFar, HasCauses, IsLawful, IsLawfulSoFar}
 
--- the moves, where they are shown
-whole_moves : (config : Options) (history : List Happening) → IsPlain config → ArePossible history (start_of config) → ObeysMoves config.order (report_of config Moves history)
-whole_moves config history plain may =
-    let obeys = report_obeys config Moves history plain.order in
-    let report = report_of config Moves history in
-    record {
-      coherent = coherent_of report obeys;
-      answered = answers_of report obeys;
-      touched = touches_of report obeys;
-      grantable = grantable_of report obeys;
-      overruns = report_overruns config Moves history;
-      stretches = report_stretches config Moves history plain.start;
-      dumps = report_dumped config Moves history plain.order (possible_wished config history may);
-      layout = report_named config Moves history;
-    }
-
-ended_moves : (config : Options) (history : List Happening) → IsPlain config → ArePossible history (start_of config) → ObeysMoves config.order (ended_report_of config Moves history)
-ended_moves config history plain may =
-    let obeys = ended_obeys config Moves history plain.order in
+-- each rule on moves, where they are shown
+ended_moved : (config : Options) (history : List Happening) → IsPlain config → reads_of (report_of config Moves history) < 2 ^ 64 → ObeysEach move_rules (ended_report_of config Moves history)
+ended_moved config history plain few =
     let report = ended_report_of config Moves history in
-    record {
-      coherent = coherent_of report obeys;
-      answered = answers_of report obeys;
-      touched = touches_of report obeys;
-      grantable = grantable_of report obeys;
-      overruns = ended_overruns config Moves history;
-      stretches = ended_stretches config Moves history plain.start;
-      dumps = ended_dumped config Moves history plain.order (possible_wished config history may);
-      layout = ended_named config Moves history;
-    }
+    let memory = ended_obeys config Moves history plain.order in
+    let work = ended_rules config Moves history plain.indirect few in
+    let touch : Obeys IsTouchRuleAt report = λ before after line is. record { touch = touches_of report memory before after line is; answer = answers_of report memory before after line is } in
+    let fetch : Obeys IsFetchAt report = λ before after line is. record {
+      stretch = ended_stretches config Moves history plain.start before after line is;
+      step = steps_of report work before after line is;
+      effect = effects_of report work before after line is;
+      given = data_of report work before after line is;
+      reply = ended_replies config Moves history plain.indirect few before after line is;
+    } in
+    All-from_recursion (λ (rule : Rule). Obeys (Keeps rule) report) move_rules
+    (kept_shown IsCoherentAt report (coherent_of report memory), (kept_shown IsTouchRuleAt report touch, (kept_shown IsFetchAt report fetch, (kept_shown IsOverrunAt report (ended_overruns config Moves history), tt))))
 
-shown : (detail : Detail) (config : Options) (history : List Happening) → IsPlain config → ArePossible history (start_of config) → detail ≡ Moves → ObeysMoves config.order (kept_of detail (report_of config detail history))
-shown detail config history plain may same =
-    subst (λ (d : Detail). ObeysMoves config.order (kept_of d (report_of config d history))) (sym same) (subst (ObeysMoves config.order) (sym (report_kept config history)) (whole_moves config history plain may))
+-- and where they aren't
+ended_ruled_moves : (detail : Detail) (config : Options) (history : List Happening) → IsPlain config → reads_of (report_of config detail history) < 2 ^ 64 → ObeysEach move_rules (kept_of detail (ended_report_of config detail history))
+ended_ruled_moves Moves config history plain few = subst (ObeysEach move_rules) (sym (ended_kept config history)) (ended_moved config history plain few)
+ended_ruled_moves Lines config history plain few =
+    let begun : IsBegun config Lines (kept_of Lines (ended_report_of config Lines history)) = ended_begun config Lines history in
+    subst (ObeysEach move_rules) (sym begun.first) (unshown_obeys config begun.rest begun.once)
 
-ended_shown : (detail : Detail) (config : Options) (history : List Happening) → IsPlain config → ArePossible history (start_of config) → detail ≡ Moves → ObeysMoves config.order (kept_of detail (ended_report_of config detail history))
-ended_shown detail config history plain may same =
-    subst (λ (d : Detail). ObeysMoves config.order (kept_of d (ended_report_of config d history))) (sym same) (subst (ObeysMoves config.order) (sym (ended_kept config history)) (ended_moves config history plain may))
-
--- the work
-whole_work : (config : Options) (history : List Happening) → IsPlain config → reads_of (report_of config Moves history) < 2 ^ 64 → ShowsWork (report_of config Moves history)
-whole_work config history plain few =
-    let obeys = report_rules config Moves history plain.indirect few in
-    let report = report_of config Moves history in
-    record { steps = steps_of report obeys; data_given = data_of report obeys; effects = effects_of report obeys; unmaps = report_unmaps config Moves history plain.indirect few; own = report_own config Moves history plain.indirect few; replies = report_replies config Moves history plain.indirect few }
-
-ended_work : (config : Options) (history : List Happening) → IsPlain config → reads_of (report_of config Moves history) < 2 ^ 64 → ShowsWork (ended_report_of config Moves history)
-ended_work config history plain few =
-    let obeys = ended_rules config Moves history plain.indirect few in
-    let report = ended_report_of config Moves history in
-    record { steps = steps_of report obeys; data_given = data_of report obeys; effects = effects_of report obeys; unmaps = ended_unmaps config Moves history plain.indirect few; own = ended_own config Moves history plain.indirect few; replies = ended_replies config Moves history plain.indirect few }
-
-worked : (detail : Detail) (config : Options) (history : List Happening) → IsPlain config → detail ≡ Moves → reads_of (report_of config detail history) < 2 ^ 64 → ShowsWork (kept_of detail (report_of config detail history))
-worked detail config history plain same =
-    subst (λ (d : Detail). reads_of (report_of config d history) < 2 ^ 64 → ShowsWork (kept_of d (report_of config d history))) (sym same)
-    (λ few. subst ShowsWork (sym (report_kept config history)) (whole_work config history plain few))
-
-ended_worked : (detail : Detail) (config : Options) (history : List Happening) → IsPlain config → detail ≡ Moves → reads_of (report_of config detail history) < 2 ^ 64 → ShowsWork (kept_of detail (ended_report_of config detail history))
-ended_worked detail config history plain same =
-    subst (λ (d : Detail). reads_of (report_of config d history) < 2 ^ 64 → ShowsWork (kept_of d (ended_report_of config d history))) (sym same)
-    (λ few. subst ShowsWork (sym (ended_kept config history)) (ended_work config history plain few))
-
--- of a beginning
-work_before : (report more : List Line) → ShowsWork (report ++ more) → ShowsWork report
-work_before report more h = record {
-  steps = obeys_before _ report more h.steps;
-  data_given = obeys_before _ report more h.data_given;
-  effects = obeys_before _ report more h.effects;
-  unmaps = obeys_before _ report more h.unmaps;
-  own = obeys_before _ report more h.own;
-  replies = obeys_before _ report more h.replies;
+-- what the moves are besides
+ended_moves : (config : Options) (history : List Happening) → IsPlain config → ArePossible history (start_of config) → reads_of (report_of config Moves history) < 2 ^ 64 → ObeysMoves config.order (ended_report_of config Moves history)
+ended_moves config history plain may few = record {
+  grantable = grantable_of (ended_report_of config Moves history) (ended_obeys config Moves history plain.order);
+  dumps = ended_dumped config Moves history plain.order (possible_wished config history may);
+  layout = ended_named config Moves history;
+  unmaps = ended_unmaps config Moves history plain.indirect few;
+  own = ended_own config Moves history plain.indirect few;
 }
 
+ended_shown : (detail : Detail) (config : Options) (history : List Happening) → IsPlain config → ArePossible history (start_of config) → reads_of (report_of config detail history) < 2 ^ 64 → detail ≡ Moves → ObeysMoves config.order (kept_of detail (ended_report_of config detail history))
+ended_shown Moves config history plain may few same = subst (ObeysMoves config.order) (sym (ended_kept config history)) (ended_moves config history plain may few)
+ended_shown Lines config history plain may few same = absurd (cc)
+
+-- of a beginning
 moves_before : (order : ℕ) (report more : List Line) → ObeysMoves order (report ++ more) → ObeysMoves order report
 moves_before order report more h = record {
-  coherent = obeys_before _ report more h.coherent;
-  answered = obeys_before _ report more h.answered;
-  touched = obeys_before _ report more h.touched;
   grantable = obeys_before _ report more h.grantable;
-  overruns = obeys_before _ report more h.overruns;
-  stretches = obeys_before _ report more h.stretches;
   dumps = obeys_before _ report more h.dumps;
   layout = obeys_before _ report more h.layout;
+  unmaps = obeys_before _ report more h.unmaps;
+  own = obeys_before _ report more h.own;
 }
 
 -- what a run of the plain disk answers
@@ -419,6 +387,8 @@ report_lawful config detail history before now h long runs causes =
     let report = kept_of detail (report_of config detail history) in
     let first = kept_of detail (report_of config detail (honest_history history)) in
     let same : honest_part report ≡ first = report_honest config detail history h in
+    let last = kept_of detail (End ∷ []) in
+    let ended : kept_of detail (ended_report_of config detail history) ≡ report ++ last = kept_of-append detail (report_of config detail history) (End ∷ []) in
     record {
       begun = report_begun config detail history;
       kept = λ fixed. content_kept config history before now fixed runs;
@@ -434,8 +404,8 @@ report_lawful config detail history before now h long runs causes =
       agreed = λ moves. subst AreStatesAgreed (sym same) (alike detail config (honest_history history) h.agreed moves);
       ports = λ moves. report_ports config detail history;
       causes = causes;
-      moves = shown detail config history h.plain h.possible;
-      work = λ moves. worked detail config history h.plain moves h.brief.reads;
+      moves = λ moves. moves_before config.order report last (subst (ObeysMoves config.order) ended (ended_shown detail config history h.plain h.possible h.brief.reads moves));
+      rules = each_before move_rules report last (subst (ObeysEach move_rules) ended (ended_ruled_moves detail config history h.plain h.brief.reads));
     }
 
 -- with its last line
@@ -462,8 +432,8 @@ ended_lawful config detail history before now h long runs causes =
           (alike detail config (honest_history history) h.agreed moves);
       ports = λ moves. ended_ports config detail history;
       causes = causes;
-      moves = ended_shown detail config history h.plain h.possible;
-      work = λ moves. ended_worked detail config history h.plain moves h.brief.reads;
+      moves = ended_shown detail config history h.plain h.possible h.brief.reads;
+      rules = ended_ruled_moves detail config history h.plain h.brief.reads;
     }
 
 -- and the beginning of one
@@ -488,8 +458,8 @@ begun_lawful config detail history before said rest h all run causes =
       agreed = λ moves. obeys_before IsAgreedAt (honest_part one) part.0 (subst (Obeys IsAgreedAt) (sym part.1) (ended_alike detail config (honest_history history) h.agreed moves));
       ports = λ moves. obeys_before IsFewPortsAt one other (subst (Obeys IsFewPortsAt) (sym split) (ended_ports config detail history));
       causes = λ moves. caused_before one other (subst HasCauses (sym split) (causes moves));
-      moves = λ moves. moves_before config.order one other (subst (ObeysMoves config.order) (sym split) (ended_shown detail config history h.plain h.possible moves));
-      work = λ moves. work_before one other (subst ShowsWork (sym split) (ended_worked detail config history h.plain moves h.brief.reads));
+      moves = λ moves. moves_before config.order one other (subst (ObeysMoves config.order) (sym split) (ended_shown detail config history h.plain h.possible h.brief.reads moves));
+      rules = each_before move_rules one other (subst (ObeysEach move_rules) (sym split) (ended_ruled_moves detail config history h.plain h.brief.reads));
     }
 
 -- no lines
@@ -523,8 +493,8 @@ nothing_lawful config detail jobs before =
       agreed = λ same. obeys_none IsAgreedAt;
       ports = λ same. obeys_none IsFewPortsAt;
       causes = λ same. nothing_caused;
-      moves = λ same. record { coherent = obeys_none _; answered = obeys_none _; touched = obeys_none _; grantable = obeys_none _; overruns = obeys_none _; stretches = obeys_none _; dumps = obeys_none _; layout = obeys_none _ };
-      work = λ same. record { steps = obeys_none _; data_given = obeys_none _; effects = obeys_none _; unmaps = obeys_none _; own = obeys_none _; replies = obeys_none _ };
+      moves = λ same. record { grantable = obeys_none _; dumps = obeys_none _; layout = obeys_none _; unmaps = obeys_none _; own = obeys_none _ };
+      rules = each_none move_rules;
     }
   where
     nothing_run : (before : Option (List (List ℕ))) → IsRunSoFar before []

@@ -1,4 +1,4 @@
--- What every report of a run tells, whatever its schedule: `report_rules`, `plain_disk`, `pipeline_laws` and `report_laws` have the rules.
+-- What every report of a run tells, whatever its schedule: `report_rules`, `checked_rules`, `plain_disk`, `pipeline_laws` and `report_laws` have the rules.
 use Rattle.std.specs.Prelude.{◌≡◌, ℕ, ◌+◌, ◌≤◌, ◌⊎◌, Bool, true, false, List, ◌++◌, length, filter, Option, Result, Ok, Err, All}
 use Rattle.blk_base.specs.Options.{Options}
 use Rattle.blk_base.specs.declared.config.Submission.{Submission}
@@ -13,18 +13,10 @@ use Rattle.schedule_text.specs.declared.recorder.RecordStop.TheVariants as recor
 use Rattle.schedule_text.specs.Range.{SubmissionHasWidths}
 use Rattle.schedule_text.specs.Recorder.{Told, gained, recorded, StopsWithin}
 use Rattle.report_rules.specs.Obeys.{Obeys}
-use Rattle.report_rules.specs.Coherent.{IsCoherent}
-use Rattle.report_rules.specs.Mapped.{AreMapAnswers}
-use Rattle.report_rules.specs.Touch.{AreTouches}
-use Rattle.report_rules.specs.Overrun.{IsOverrunRule}
-use Rattle.report_rules.specs.Stretch.{AreStretches}
-use Rattle.report_rules.specs.Steps.{AreSteps}
-use Rattle.report_rules.specs.Data.{AreData}
-use Rattle.report_rules.specs.Effect.{AreEffects}
+use Rattle.checked_rules.specs.Rules.{move_rules, ObeysEach}
 use Rattle.ring_laws.specs.Unmaps.{AreUnmaps}
 use Rattle.ring_laws.specs.Own.{AreOwn}
 use Rattle.ring_laws.specs.Layout.{IsNamedFirst}
-use Rattle.report_rules.specs.Reply.{AreReplies}
 use Rattle.move_laws.specs.Grantable.{AreGrantable}
 use Rattle.move_laws.specs.Dumped.{AreWholeDumps}
 use Rattle.plain_disk.specs.Honest.{honest_part, IsHonest}
@@ -58,25 +50,13 @@ use Rattle.schedule_run.specs.Outcome.{Outside, HasCarried}
 use Rattle.schedule_run.specs.declared.schedule.RunStop.{RunStop}
 use Rattle.schedule_run.specs.declared.schedule.RunStop.TheVariants as stop
 
--- the moves that a report shows: each read shows what the lines before it left there; each map is answered as its entry stands by them; each touch of the back or a job is of a word of frames 2 to 1023 through a mapping that stands, and writes only through one for writing; a producer that overran halts the back, which serves nothing more; each entry is fetched in one stretch, each word once, only where a request is unconsumed; a dump shows each word of a ring of `2^order` pages that isn't 0; and the back reads which layout of entries it is to serve only before it maps a page of the ring
+-- what the moves that a report shows are besides, which no rule of a reader asks: each touch of the back or a job is of a word of frames 2 to 1023; a dump shows each word of a ring of `2^order` pages that isn't 0; the back reads which layout of entries it is to serve only before it maps a page of the ring; and a job reads, writes and unmaps only through what it mapped itself
 pub record ObeysMoves (order : ℕ) (report : List Line) : Type 0 where
-  pub coherent : IsCoherent report
-  pub answered : AreMapAnswers report
-  pub touched : AreTouches report
   pub grantable : AreGrantable report
-  pub overruns : IsOverrunRule report
-  pub stretches : AreStretches report
   pub dumps : AreWholeDumps order report
   pub layout : IsNamedFirst report
-
--- the work that a report shows: each job's moves are in order the steps of the work of its entry as its words were read; each word that it writes to the guest is the one that the disk gave; the outcome of a move of the disk stands after it, and nowhere else; a job reads, writes and unmaps only through what it mapped itself; and each reply is the response of a job whose work is over and that had none yet, pushed and told once it is whole
-pub record ShowsWork (report : List Line) : Type 0 where
-  pub steps : AreSteps report
-  pub data_given : AreData report
-  pub effects : AreEffects report
   pub unmaps : AreUnmaps report
   pub own : AreOwn report
-  pub replies : AreReplies report
 
 -- what a report shows of both ends stands exactly where its cause does: the halts of the back, the words that break the front, after which it does nothing more, the answers, and the lines of the front's state
 pub record HasCauses (report : List Line) : Type 0 where
@@ -106,7 +86,7 @@ pub record ServesRequestsSoFar (jobs : List Submission) (before : Option (List (
   pub unbroken : IsUnbroken report
   pub states : AreStates report
 
--- a report begins with the options; its lines are lines of the grammar that its text gives back; a read-only disk holds what it held; each submission has the answer of the first rule that applies, as the lines before it say, also after a hostile line; and where it shows the moves, they obey the rules, the front makes at most 4 ports in an epoch, and each `halt`, each `broken`, each `answer` and each line of the front's state stands exactly where its cause does, whatever a hostile hand overwrites. A report that no hostile hand touched serves its requests as the plain disk does, from what the disk held to what it holds, where the disk tells that, or what the report shows of it are the calls of a disk. Of any other, the lines before the first hostile one do so, the front was connected before the first `quiet` line of them, no `settle` ran out of rounds, and where moves are shown the ring is served and read at each of their `quiet` lines, and both ends have said that they are connected, or, after a `closing` line, that they are closed
+-- a report begins with the options; its lines are lines of the grammar that its text gives back; a read-only disk holds what it held; each submission has the answer of the first rule that applies, as the lines before it say, also after a hostile line; and where it shows the moves, they obey each rule on them, the front makes at most 4 ports in an epoch, and each `halt`, each `broken`, each `answer` and each line of the front's state stands exactly where its cause does, whatever a hostile hand overwrites. A report that no hostile hand touched serves its requests as the plain disk does, from what the disk held to what it holds, where the disk tells that, or what the report shows of it are the calls of a disk. Of any other, the lines before the first hostile one do so, the front was connected before the first `quiet` line of them, no `settle` ran out of rounds, and where moves are shown the ring is served and read at each of their `quiet` lines, and both ends have said that they are connected, or, after a `closing` line, that they are closed
 pub record IsLawful (config : Options) (detail : Detail) (jobs : List Submission) (before now : Option (List (List ℕ))) (report : List Line) : Type 0 where
   pub begun : IsBegun config detail report
   pub kept : config.read_only ≡ true → now ≡ before
@@ -121,7 +101,7 @@ pub record IsLawful (config : Options) (detail : Detail) (jobs : List Submission
   pub ports : detail ≡ Moves → AreFewPorts report
   pub causes : detail ≡ Moves → HasCauses report
   pub moves : detail ≡ Moves → ObeysMoves config.order report
-  pub work : detail ≡ Moves → ShowsWork report
+  pub rules : ObeysEach move_rules report
 
 -- so is the beginning of one, as far as it was written
 pub record IsLawfulSoFar (config : Options) (detail : Detail) (jobs : List Submission) (before : Option (List (List ℕ))) (report : List Line) : Type 0 where
@@ -136,7 +116,7 @@ pub record IsLawfulSoFar (config : Options) (detail : Detail) (jobs : List Submi
   pub ports : detail ≡ Moves → AreFewPorts report
   pub causes : detail ≡ Moves → HasCauses report
   pub moves : detail ≡ Moves → ObeysMoves config.order report
-  pub work : detail ≡ Moves → ShowsWork report
+  pub rules : ObeysEach move_rules report
 
 -- a lawful report was told, which echoes these events and falls into the lines of each; each event that submits has numbers of the grammar; and the faults that it tells are those of the disk
 pub record HasLawfulReport (config : Options) (events : List Event) (old new : Outside) : Type 0 where

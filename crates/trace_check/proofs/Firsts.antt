@@ -5,8 +5,8 @@ use Rattle.std.specs.Bool.{Decides}
 use Rattle.std.proofs.lemmas.Bool.Decides.{not_from_Decides}
 use Rattle.std.proofs.lemmas.List.Elements.{All-nil, All-cons, All-append}
 use Rattle.schedule_text.specs.declared.line.Line.{Line}
-use Rattle.trace_check.specs.declared.rule.Rule.{Rule}
-use Rattle.trace_check.specs.Rules.{Keeps, IsFirstBroken}
+use Rattle.checked_rules.specs.declared.rule.Rule.{Rule}
+use Rattle.checked_rules.specs.Rules.{Keeps, IsFirstBroken}
 use Rattle.trace_check.specs.Trace.{first_of}
 
 -- of no rules none is broken

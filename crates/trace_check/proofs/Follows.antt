@@ -10,8 +10,9 @@ use Rattle.ring_check.specs.State as ring
 use Rattle.job_check.specs.State as jobs
 use Rattle.job_check.specs.Laws.{jobs_after}
 use Rattle.job_check.proofs.Sees.{jobs_more}
-use Rattle.trace_check.specs.Outline.{shows_moves, outlined}
-use Rattle.trace_check.specs.Rules.{IsOrderAt}
+use Rattle.checked_rules.specs.Lines.{shows_moves}
+use Rattle.trace_check.specs.Outline.{outlined}
+use Rattle.checked_rules.specs.Rules.{IsOrderAt}
 use Rattle.trace_check.specs.Trace.{Trace, start, seen, trace_after}
 use Rattle.trace_check.proofs.Outlines.{Outlines, none_outlined, outlined_more, shown_first}
 

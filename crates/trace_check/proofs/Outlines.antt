@@ -10,8 +10,10 @@ use Rattle.blk_base.specs.Options.{Options}
 use Rattle.schedule_text.specs.declared.line.Detail.{Detail}
 use Rattle.plain_disk.specs.Honest.{is_honest}
 use Rattle.report_rules.specs.Obeys.{Obeys}
-use Rattle.trace_check.specs.Outline.{Outline, is_begin, shows_moves, is_end, is_move, no_lines, outlined, allows_order}
-use Rattle.trace_check.specs.Rules.{IsOrderAt, WhereShown}
+use Rattle.checked_rules.specs.Lines.{is_begin, shows_moves, is_end, is_move}
+use Rattle.trace_check.specs.Outline.{Outline, no_lines, outlined, allows_order}
+use Rattle.checked_rules.specs.Rules.{IsOrderAt, WhereShown}
+use Rattle.checked_rules.proofs.Listed.{only_begin_shows}
 
 -- the outline is what these lines say
 pub record Outlines (before : List Line) (o : Outline) : Type 0 where
@@ -103,10 +105,6 @@ order_decided before line o h = (kept, allowed)
         (λ m. h.shown ∙ k.shown m)
 
 -- ---- where moves are shown
-
-pub only_begin_shows : (line : Line) → is_begin line ≡ false → shows_moves line ≡ false
-only_begin_shows (lines.Begin config d) e = absurd (true≢false e)
-only_begin_shows line e = refl
 
 some_more : (before : List Line) (line : Line) → before ++ line ∷ [] ≢ []
 some_more before line e = no_more before line e

@@ -14,11 +14,11 @@ use Rattle.report_lines.specs.Giving.{unread, IsNext, Tells, IsNoLine, IsRoomSpe
 use Rattle.report_lines.specs.declared.reader.ReadStop.{ReadStop}
 use Rattle.report_lines.specs.declared.reader.ReadStop.TheVariants as read
 use Rattle.report_lines.proofs.Giving.{room_spent, unread_filled}
-use Rattle.trace_check.specs.declared.rule.Rule.{Rule}
+use Rattle.checked_rules.specs.declared.rule.Rule.{Rule}
 use Rattle.trace_check.specs.declared.finding.Finding.TheVariants.{Broken}
-use Rattle.trace_check.specs.Outline.{is_end}
+use Rattle.checked_rules.specs.Lines.{is_end}
 use Rattle.trace_check.specs.Trace.{Trace, start, seen, trace_after, broken_by}
-use Rattle.trace_check.specs.Rules.{IsOrderAt, KeepsAll}
+use Rattle.checked_rules.specs.Rules.{IsOrderAt, KeepsAll}
 use Rattle.trace_check.specs.Found.{EndsWell, IsBadAt, IsLong, IsFound, Finds, stop_at, finding_at}
 use Rattle.trace_check.proofs.Premises.{in_order}
 use Rattle.trace_check.proofs.Follows.{follows_all}

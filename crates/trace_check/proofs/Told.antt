@@ -1,10 +1,10 @@
 -- The rule that a check tells of a line is the first that it breaks.
-use Rattle.std.proofs.Common.{◌≡◌, not, ◌&&◌, ◌||◌, Bool, true, false, if◌then◌else◌, List, [], ◌++◌, refl, sym, ap, subst, ◌∙◌, true≢false}
+use Rattle.std.proofs.Common.{◌≡◌, not, ◌&&◌, ◌||◌, Bool, true, false, if◌then◌else◌, List, [], ◌∷◌, ◌++◌, refl, sym, ap, subst, ◌∙◌, true≢false}
 use Rattle.std.specs.Prelude.{Option, Some, None, IsTrue}
 use Rattle.std.specs.List.{list_all, list_any}
 use Rattle.std.specs.Bool.{Decides}
 use Rattle.std.proofs.lemmas.Bool.Decides.{Decides-and}
-use Rattle.std.proofs.lemmas.List.Elements.{All-nil, All-cons}
+use Rattle.std.proofs.lemmas.List.Elements.{All-from_recursion}
 use Rattle.schedule_text.specs.declared.line.Line.{Line}
 use Rattle.plain_disk.specs.Honest.{is_honest}
 use Rattle.report_rules.specs.Obeys.{Obeys}
@@ -33,15 +33,55 @@ use Rattle.job_check.proofs.Sees as followed
 use Rattle.job_check.proofs.Decided.{step_decided, effect_decided, data_decided}
 use Rattle.job_check.proofs.ReplySees.{replying_all}
 use Rattle.job_check.proofs.ReplyDecided.{reply_decided}
-use Rattle.trace_check.specs.declared.rule.Rule.{Rule}
-use Rattle.trace_check.specs.declared.rule.Rule.TheVariants as rule
-use Rattle.trace_check.specs.Outline.{shows_moves, outlined}
-use Rattle.trace_check.specs.Rules.{IsTouchRuleAt, IsFetchAt, Keeps, KeepsEach, KeepsAll, request_rules, move_rules, all_rules, Breaks, IsFirstBroken}
+use Rattle.checked_rules.specs.declared.rule.Rule.{Rule}
+use Rattle.checked_rules.specs.declared.rule.Rule.TheVariants as rule
+use Rattle.checked_rules.specs.Lines.{shows_moves}
+use Rattle.trace_check.specs.Outline.{outlined}
+use Rattle.checked_rules.proofs.Listed.{all_unshown}
+use Rattle.checked_rules.specs.Rules.{IsTouchRuleAt, IsFetchAt, Keeps, KeepsEach, KeepsAll, request_rules, move_rules, all_rules, Breaks, IsFirstBroken}
 use Rattle.trace_check.specs.Trace.{Trace, trace_after, allows_touch, allows_fetch, broken_request, broken_move, broken_by}
 use Rattle.trace_check.proofs.Outlines.{order_decided}
 use Rattle.trace_check.proofs.Follows.{Follows, Moves, follows_all}
 use Rattle.trace_check.proofs.Firsts.{none_first, decided_first, both_first}
-use Rattle.trace_check.proofs.Premises.{in_order, keeps_requests, keeps_touches, keeps_answers, keeps_steps, from_submit, from_refuse, from_effect, from_barrier, from_service, from_reply, from_answer, from_data, from_quiet, from_touch, from_fetch, from_overrun}
+use Rattle.trace_check.proofs.Premises.{in_order, keeps_requests, keeps_touches, keeps_answers, keeps_steps}
+
+-- the rules on requests from one of them on
+abbrev from_quiet : List Rule
+from_quiet = rule.Quiet ∷ []
+
+abbrev from_data : List Rule
+from_data = rule.Data ∷ from_quiet
+
+abbrev from_answer : List Rule
+from_answer = rule.Answer ∷ from_data
+
+abbrev from_reply : List Rule
+from_reply = rule.Reply ∷ from_answer
+
+abbrev from_service : List Rule
+from_service = rule.Service ∷ from_reply
+
+abbrev from_barrier : List Rule
+from_barrier = rule.Barrier ∷ from_service
+
+abbrev from_effect : List Rule
+from_effect = rule.Effect ∷ from_barrier
+
+abbrev from_refuse : List Rule
+from_refuse = rule.Refuse ∷ from_effect
+
+abbrev from_submit : List Rule
+from_submit = rule.Submit ∷ from_refuse
+
+-- those on moves from one of them on
+abbrev from_overrun : List Rule
+from_overrun = rule.Overrun ∷ []
+
+abbrev from_fetch : List Rule
+from_fetch = rule.Fetch ∷ from_overrun
+
+abbrev from_touch : List Rule
+from_touch = rule.Touch ∷ from_fetch
 
 -- ---- requests
 
@@ -71,18 +111,8 @@ requests_told before line s v same honest =
 all_hostile : (before : List Line) (line : Line) → (list_all is_honest before && is_honest line) ≡ false → KeepsEach request_rules before line
 all_hostile before line hostile =
     let none = λ (yes : IsTrue (list_all is_honest before && is_honest line)). true≢false (sym yes ∙ hostile) in
-    let P = λ (rule : Rule). Keeps rule before line in
-    All-cons P rule.State from_submit (λ yes. absurd (none yes))
-    (All-cons P rule.Submit from_refuse (λ yes. absurd (none yes))
-    (All-cons P rule.Refuse from_effect (λ yes. absurd (none yes))
-    (All-cons P rule.Effect from_barrier (λ yes. absurd (none yes))
-    (All-cons P rule.Barrier from_service (λ yes. absurd (none yes))
-    (All-cons P rule.Service from_reply (λ yes. absurd (none yes))
-    (All-cons P rule.Reply from_answer (λ yes. absurd (none yes))
-    (All-cons P rule.Answer from_data (λ yes. absurd (none yes))
-    (All-cons P rule.Data from_quiet (λ yes. absurd (none yes))
-    (All-cons P rule.Quiet [] (λ yes. absurd (none yes))
-    (All-nil P))))))))))
+    All-from_recursion (λ (rule : Rule). Keeps rule before line) request_rules
+    (λ yes. absurd (none yes), (λ yes. absurd (none yes), (λ yes. absurd (none yes), (λ yes. absurd (none yes), (λ yes. absurd (none yes), (λ yes. absurd (none yes), (λ yes. absurd (none yes), (λ yes. absurd (none yes), (λ yes. absurd (none yes), (λ yes. absurd (none yes), tt))))))))))
 
 hostile_is : (all one : Bool) → (not all || not one) ≡ not (all && one)
 hostile_is true one = refl
@@ -166,17 +196,6 @@ moves_told before line t m s =
     (decided_first rule.Fetch from_overrun before line _ _ (h _ _ (fetch_told before line t m s))
     (decided_first rule.Overrun [] before line _ _ (h _ _ overrun)
     (none_first before line))))
-
--- where moves aren't shown each rule on them is kept
-all_unshown : (before : List Line) (line : Line) → list_any shows_moves before ≡ false → KeepsEach move_rules before line
-all_unshown before line unshown =
-    let none = λ (yes : IsTrue (list_any shows_moves before)). true≢false (sym yes ∙ unshown) in
-    let P = λ (rule : Rule). Keeps rule before line in
-    All-cons P rule.Coherent from_touch (λ yes. absurd (none yes))
-    (All-cons P rule.Touch from_fetch (λ yes. absurd (none yes))
-    (All-cons P rule.Fetch from_overrun (λ yes. absurd (none yes))
-    (All-cons P rule.Overrun [] (λ yes. absurd (none yes))
-    (All-nil P))))
 
 shown_told : (before : List Line) (line : Line) (t : Trace) (shown : Bool) → t.outline.shown ≡ shown → Follows before t → Obeys KeepsAll before
     → IsFirstBroken move_rules before line (if shown then broken_move t line else None)

@@ -8,13 +8,13 @@ use Rattle.report_lines.specs.Text.{BeginsWith, IsReportText, HasNoLineFeed}
 use Rattle.report_lines.specs.Giving.{Tells, IsNoLine}
 use Rattle.report_lines.specs.declared.reader.ReadStop.{ReadStop}
 use Rattle.report_lines.specs.declared.reader.ReadStop.TheVariants as read
-use Rattle.trace_check.specs.declared.rule.Rule.{Rule}
-use Rattle.trace_check.specs.declared.rule.Rule.TheVariants as rule
+use Rattle.checked_rules.specs.declared.rule.Rule.{Rule}
+use Rattle.checked_rules.specs.declared.rule.Rule.TheVariants as rule
 use Rattle.trace_check.specs.declared.finding.Finding.{Finding}
 use Rattle.trace_check.specs.declared.finding.Finding.TheVariants.{Legal, Broken}
 use Rattle.trace_check.specs.declared.finding.CheckStop.{CheckStop}
 use Rattle.trace_check.specs.declared.finding.CheckStop.TheVariants.{BadLine, Source, TooLong, OutOfMemory}
-use Rattle.trace_check.specs.Rules.{KeepsAll, Breaks, all_rules}
+use Rattle.checked_rules.specs.Rules.{KeepsAll, Breaks, all_rules}
 
 -- the last line is `end`
 abbrev pub EndsWell : List Line → Type 0

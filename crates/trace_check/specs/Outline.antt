@@ -1,26 +1,8 @@
 -- The outline of a report: whether it has begun and ended, whether it shows moves, and whether a hostile line came. It is kept as a state that takes one step a line.
 use Rattle.std.specs.Prelude.{Bool, true, false, not, ◌&&◌, ◌||◌, if◌then◌else◌, List, fold}
-use Rattle.schedule_text.specs.declared.line.Detail.TheVariants as detail
 use Rattle.schedule_text.specs.declared.line.Line.{Line}
-use Rattle.schedule_text.specs.declared.line.Line.TheVariants as lines
 use Rattle.plain_disk.specs.Honest.{is_honest}
-
-abbrev pub is_begin : Line → Bool
-is_begin (lines.Begin config detail) = true
-is_begin line = false
-
--- `begin` says that moves are shown
-abbrev pub shows_moves : Line → Bool
-shows_moves (lines.Begin config detail.Moves) = true
-shows_moves line = false
-
-abbrev pub is_end : Line → Bool
-is_end lines.End = true
-is_end line = false
-
-abbrev pub is_move : Line → Bool
-is_move (lines.Move move) = true
-is_move line = false
+use Rattle.checked_rules.specs.Lines.{is_begin, shows_moves, is_end, is_move}
 
 pub record Outline : Type 0 where
   pub begun : Bool

@@ -9,8 +9,8 @@ use Rattle.ring_check.specs.State as ring
 use Rattle.ring_check.specs.Verdict.{allows_stretch, allows_overrun}
 use Rattle.job_check.specs.State as jobs
 use Rattle.job_check.specs.Verdict as job
-use Rattle.trace_check.specs.declared.rule.Rule.{Rule}
-use Rattle.trace_check.specs.declared.rule.Rule.TheVariants as rule
+use Rattle.checked_rules.specs.declared.rule.Rule.{Rule}
+use Rattle.checked_rules.specs.declared.rule.Rule.TheVariants as rule
 use Rattle.trace_check.specs.Outline.{Outline, no_lines, outlined, allows_order}
 
 pub record Trace : Type 0 where

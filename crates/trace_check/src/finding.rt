@@ -2,10 +2,10 @@
 ghost use Rattle.std.specs.Prelude.{◌≡◌, ◌≤◌};
 ghost use Rattle.trace_check.specs.Found.{Finds, stop_at, finding_at};
 
-use crate::rule::Rule;
 use crate::trace::Trace;
 use blk_base::OutOfMemory;
 use blk_io::Source;
+use checked_rules::Rule;
 use report_lines::{ReadStop, ReportLines};
 use schedule_text::Line;
 use std::alloc::Global;

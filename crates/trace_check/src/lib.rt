@@ -6,10 +6,8 @@
 
 mod finding;
 mod outline;
-mod rule;
 mod text;
 mod trace;
 
 pub use finding::{CheckStop, Finding, check};
-pub use rule::Rule;
 pub use text::write_finding;

@@ -1,7 +1,8 @@
 // The outline of a report.
 ghost use Rattle.std.specs.Prelude.{◌≡◌, not};
 ghost use Rattle.plain_disk.specs.Honest.{is_honest};
-ghost use Rattle.trace_check.specs.Outline.{is_begin, shows_moves, is_end, is_move, no_lines, outlined, allows_order};
+ghost use Rattle.checked_rules.specs.Lines.{is_begin, shows_moves, is_end, is_move};
+ghost use Rattle.trace_check.specs.Outline.{no_lines, outlined, allows_order};
 
 use schedule_text::{Detail, Line};
 use std::marker::Model;

@@ -3,8 +3,8 @@ ghost use Rattle.std.specs.Prelude.{◌≡◌, IfOk};
 ghost use Rattle.trace_check.specs.Trace.{start, moved, seen, allows_touch, allows_fetch, broken_request, broken_while_honest, broken_where_shown, broken_by};
 
 use crate::outline::Outline;
-use crate::rule::Rule;
 use blk_base::OutOfMemory;
+use checked_rules::Rule;
 use job_check::JobSight;
 use memory_check::Memory;
 use request_check::RequestCheck;

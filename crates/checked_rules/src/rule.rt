@@ -1,6 +1,6 @@
 // The rules of a report.
 ghost use Rattle.std.specs.Prelude.{◌≡◌, ◌≤◌, length};
-ghost use Rattle.trace_check.specs.Text.{rule_word};
+ghost use Rattle.checked_rules.specs.Word.{rule_word};
 
 /// A rule of a report, in the order in which they are tested.
 #[derive(Clone, Copy, Debug, PartialEq, Eq)]

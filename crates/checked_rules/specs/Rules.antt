@@ -3,6 +3,7 @@ use Rattle.std.specs.Prelude.{All, ◌∷◌, ◌++◌, Option, Some, None, ◌�
 use Rattle.std.specs.List.{list_all, list_any}
 use Rattle.schedule_text.specs.declared.line.Line.{Line}
 use Rattle.plain_disk.specs.Honest.{is_honest}
+use Rattle.report_rules.specs.Obeys.{Obeys}
 use Rattle.report_rules.specs.Coherent.{IsCoherentAt}
 use Rattle.report_rules.specs.Touch.{IsTouchAt}
 use Rattle.report_rules.specs.Mapped.{IsMapAnswerAt}
@@ -13,9 +14,9 @@ use Rattle.report_rules.specs.Data.{IsDataAt}
 use Rattle.report_rules.specs.Reply.{IsReplyAt}
 use Rattle.report_rules.specs.Overrun.{IsOverrunAt}
 use Rattle.request_check.specs.Rules.{IsStateAt, IsSubmitAt, IsRefuseAt, IsEffectRuleAt, IsBarrierAt, IsServiceAt, IsReplyRuleAt, IsAnswerAt, IsDataRuleAt, IsQuietAt}
-use Rattle.trace_check.specs.declared.rule.Rule.{Rule}
-use Rattle.trace_check.specs.declared.rule.Rule.TheVariants as rule
-use Rattle.trace_check.specs.Outline.{is_begin, shows_moves, is_end, is_move}
+use Rattle.checked_rules.specs.declared.rule.Rule.{Rule}
+use Rattle.checked_rules.specs.declared.rule.Rule.TheVariants as rule
+use Rattle.checked_rules.specs.Lines.{is_begin, shows_moves, is_end, is_move}
 
 -- the first line is `begin`, and no other is; nothing comes after `end`; moves come only where `begin` says so
 pub record IsOrderAt (before : List Line) (line : Line) : Type 0 where
@@ -79,6 +80,10 @@ KeepsEach rules before line = All (λ (rule : Rule). Keeps rule before line) rul
 
 abbrev pub KeepsAll : List Line → Line → Type 0
 KeepsAll = KeepsEach all_rules
+
+-- a report obeys these rules
+abbrev pub ObeysEach : List Rule → List Line → Type 0
+ObeysEach rules report = All (λ (rule : Rule). Obeys (Keeps rule) report) rules
 
 -- a line breaks one of these rules, and keeps those that come before it
 pub record Breaks (rules : List Rule) (before : List Line) (line : Line) (broken : Rule) : Type 0 where

@@ -1,0 +1,4 @@
+pub mod Lines
+pub mod Rules
+pub mod Word
+pub mod Shown
