@@ -67,7 +67,7 @@ generated_answered seed count left report echo lawful =
     let honest : IsHonest report = as_honest (options_of no_options 4096) Lines (schedule_of seed count) report echo ∙ generated_honest seed count in
     let served = lawful.requests honest tt in
     settled_counts (options_of no_options 4096) Lines (Settle ∷ lines_from count (generator_of seed)) report echo served.once served.quiet
-    (subst IsSettled (honest_whole report honest) lawful.settled)
+    (subst IsSettled (honest_whole report honest) lawful.so_far.settled)
 
 tallied : (seed count : ℕ) (disk disk' : DiskSeen) (tally : Tally) → disk.content ≡ Some zeros → IsLawfulRun (options_of no_options 4096) bytes_limit (Some (schedule_bytes seed count)) (outside disk (counting no_counts)) (outside disk' (counting tally)) → IsTallyOf (schedule_of seed count) tally
 tallied seed count disk disk' tally content h =

@@ -17,7 +17,7 @@ use Rattle.legal_laws.specs.Runs.{IsRunReport}
 promised : (config : Options) (detail : Detail) (events : List Event) (before now : Option (List (List ℕ))) (report : List Line)
     → IsRunReport config detail events before now report → IsPromised config detail (jobs_of events) report
 promised config detail events before now report r =
-    let served = r.lawful.honest r.disk in
+    let served = r.lawful.so_far.honest r.disk in
     record {
       rest = r.lawful.begun.rest;
       first = r.lawful.begun.first;
@@ -26,8 +26,8 @@ promised config detail events before now report r =
       submissions = served.submissions;
       asked = jobs_asked (jobs_of events) r.widths;
       states = served.states;
-      settled = r.lawful.settled;
-      moves = r.lawful.rules;
+      settled = r.lawful.so_far.settled;
+      moves = r.lawful.so_far.rules;
     }
 
 pub lawful_kept : (config : Options) (detail : Detail) (events : List Event) (before now : Option (List (List ℕ))) (report : List Line)
@@ -38,4 +38,4 @@ lawful_kept config detail events before now report r =
 pub lawful_found : (config : Options) (detail : Detail) (events : List Event) (before now : Option (List (List ℕ))) (report : List Line)
     → IsRunReport config detail events before now report → IsFoundLegal (report_text report)
 lawful_found config detail events before now report r =
-    promised_found_legal config detail events (jobs_of events) report (promised config detail events before now report r) r.echo r.lawful.grammar.lines
+    promised_found_legal config detail events (jobs_of events) report (promised config detail events before now report r) r.echo r.lawful.so_far.grammar.lines

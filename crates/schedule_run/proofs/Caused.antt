@@ -8,20 +8,11 @@ use Rattle.schedule_text.specs.declared.line.Detail.TheVariants.{Moves}
 use Rattle.schedule_text.specs.declared.line.Line.{Line}
 use Rattle.report_rules.proofs.Obeys.{obeys_none, obeys_before}
 use Rattle.vbd_model.specs.Happening.{Happening}
-use Rattle.vbd_model.specs.Report.{report_of, ended_report_of}
-use Rattle.vbd_laws.proofs.Halts.{report_halts, ended_halts}
-use Rattle.vbd_laws.proofs.BreaksReport.{report_breaks, ended_breaks, report_over, ended_over, report_reads, ended_reads}
-use Rattle.vbd_laws.proofs.StateLines.{report_states, ended_states}
+use Rattle.vbd_model.specs.Report.{ended_report_of}
+use Rattle.vbd_laws.proofs.Halts.{ended_halts}
+use Rattle.vbd_laws.proofs.BreaksReport.{ended_breaks, ended_over, ended_reads}
+use Rattle.vbd_laws.proofs.StateLines.{ended_states}
 use Rattle.schedule_run.specs.Lawful.{HasCauses}
-
-pub report_caused : (config : Options) (detail : Detail) (history : List Happening) → AreOptions config → config.indirect ≤ 960 → detail ≡ Moves → HasCauses (kept_of detail (report_of config detail history))
-report_caused config detail history options few moves = record {
-  halts = report_halts config detail history few moves;
-  breaks = report_breaks config detail history options moves;
-  over = report_over config detail history options moves;
-  answers = report_reads config detail history options moves;
-  states = report_states config detail history few moves;
-}
 
 pub ended_caused : (config : Options) (detail : Detail) (history : List Happening) → AreOptions config → config.indirect ≤ 960 → detail ≡ Moves → HasCauses (kept_of detail (ended_report_of config detail history))
 ended_caused config detail history options few moves = record {

@@ -169,10 +169,10 @@ where_shown Claim of config Lines report begun rules same = absurd (cc)
 pub lawful_keeps : LawfulKeepsTheHeadline
 lawful_keeps config detail jobs before now report lawful = record {
   granted = λ moves.
-      are_granted report (where_shown AreTouches shown.touches config detail report lawful.begun lawful.rules moves) (where_shown AreMapAnswers shown.answers config detail report lawful.begun lawful.rules moves);
-  overruns = λ moves. where_shown IsOverrunRule shown.overruns config detail report lawful.begun lawful.rules moves;
+      are_granted report (where_shown AreTouches shown.touches config detail report lawful.begun lawful.so_far.rules moves) (where_shown AreMapAnswers shown.answers config detail report lawful.begun lawful.so_far.rules moves);
+  overruns = λ moves. where_shown IsOverrunRule shown.overruns config detail report lawful.begun lawful.so_far.rules moves;
   disk = λ honest of. let s = lawful.requests honest of in s.disk;
   once = λ honest of. let s = lawful.requests honest of in s.once;
   quiet = λ honest of. let s = lawful.requests honest of in s.quiet;
-  settled = lawful.settled;
+  settled = lawful.so_far.settled;
 }

@@ -57,20 +57,20 @@ use Rattle.plain_disk.specs.Disk.{disk_of}
 use Rattle.blk_base.specs.declared.config.Submission.{Submission}
 use Rattle.report_laws.specs.Begun.{IsBegun}
 use Rattle.report_laws.specs.Grammar.{IsInGrammar}
-use Rattle.report_laws.specs.Ready.{IsReadyAt, IsReadyFirst}
-use Rattle.report_laws.specs.QuietRing.{IsQuietRing, IsQuietRingAt}
+use Rattle.report_laws.specs.Ready.{IsReadyAt}
+use Rattle.report_laws.specs.QuietRing.{IsQuietRingAt}
 use Rattle.report_laws.specs.States.{IsAgreedAt, AreStatesAgreed}
 use Rattle.report_laws.specs.Ports.{IsFewPortsAt}
 use Rattle.report_laws.specs.Agreed.{AreAgreed}
 use Rattle.report_laws.proofs.Begun.{report_begun, ended_begun, begun_before}
-use Rattle.report_laws.proofs.Grammar.{report_grammar, ended_grammar}
+use Rattle.report_laws.proofs.Grammar.{ended_grammar}
 use Rattle.report_laws.proofs.Texts.{grammar_before}
-use Rattle.report_laws.proofs.Ready.{report_ready, ended_ready}
-use Rattle.report_laws.proofs.QuietRing.{report_quiet, ended_quiet}
-use Rattle.report_laws.proofs.States.{report_agreed, ended_agreed}
+use Rattle.report_laws.proofs.Ready.{ended_ready}
+use Rattle.report_laws.proofs.QuietRing.{ended_quiet}
+use Rattle.report_laws.proofs.States.{ended_agreed}
 use Rattle.report_laws.specs.Settled.{is_unsettled, IsSettled, ends_quiet, AreSettled}
-use Rattle.report_laws.proofs.Settled.{report_settled, ended_settled, settled_before}
-use Rattle.report_laws.proofs.FewPorts.{report_ports, ended_ports}
+use Rattle.report_laws.proofs.Settled.{ended_settled, settled_before}
+use Rattle.report_laws.proofs.FewPorts.{ended_ports}
 use Rattle.refusal_laws.specs.Ruled.{IsRuledAt, AreRuled}
 use Rattle.refusal_laws.proofs.Serves.{AreServing}
 use Rattle.refusal_laws.proofs.Runs.{report_ruled}
@@ -170,18 +170,12 @@ settled_first (h ∷ first) rest are =
     rw (both.0, settled_first first rest both.1) refl
 
 -- both ends' states at `quiet`, where the moves are shown
-alike : (detail : Detail) (config : Options) (history : List Happening) → AreAgreed history (start_of config) → detail ≡ Moves → AreStatesAgreed (kept_of detail (report_of config detail history))
-alike detail config history are same = subst (λ (d : Detail). AreStatesAgreed (kept_of d (report_of config d history))) (sym same) (report_agreed config history are)
-
 ended_alike : (detail : Detail) (config : Options) (history : List Happening) → AreAgreed history (start_of config) → detail ≡ Moves → AreStatesAgreed (kept_of detail (ended_report_of config detail history))
 ended_alike detail config history are same = subst (λ (d : Detail). AreStatesAgreed (kept_of d (ended_report_of config d history))) (sym same) (ended_agreed config history are)
 
 -- each submission is answered by the first rule that applies
 whole_ruled : (config : Options) (detail : Detail) (history : List Happening) → IsTold config detail history → AreRuled (submitted_of history) (report_of config detail history)
 whole_ruled config detail history h = let plain = h.plain in report_ruled config detail history plain.indirect h.possible h.serving
-
-ruled : (config : Options) (detail : Detail) (history : List Happening) → IsTold config detail history → AreRuled (submitted_of history) (kept_of detail (report_of config detail history))
-ruled config detail history h = kept_ruled (submitted_of history) detail (report_of config detail history) (whole_ruled config detail history h)
 
 ended_ruled : (config : Options) (detail : Detail) (history : List Happening) → IsTold config detail history → AreRuled (submitted_of history) (kept_of detail (ended_report_of config detail history))
 ended_ruled config detail history h =
@@ -382,61 +376,7 @@ begun_honest config detail history last part rest before now h long runs all of 
         (whole_report config detail (honest_history history) before part_disk.0 h.plain (served_before history (last ∷ []) (start_of config) h.served) long part_disk.1
         (subst (IsOfADisk config.sectors before.content) same of)))
 
-pub report_lawful : (config : Options) (detail : Detail) (history : List Happening) (before now : DiskSeen) → IsTold config detail history → HasLength before.content config.sectors → DiskRuns history (start_of config) before now → (detail ≡ Moves → HasCauses (kept_of detail (report_of config detail history))) → IsLawful config detail (submitted_of history) before.content now.content (kept_of detail (report_of config detail history))
-report_lawful config detail history before now h long runs causes =
-    let report = kept_of detail (report_of config detail history) in
-    let first = kept_of detail (report_of config detail (honest_history history)) in
-    let same : honest_part report ≡ first = report_honest config detail history h in
-    let last = kept_of detail (End ∷ []) in
-    let ended : kept_of detail (ended_report_of config detail history) ≡ report ++ last = kept_of-append detail (report_of config detail history) (End ∷ []) in
-    record {
-      begun = report_begun config detail history;
-      kept = λ fixed. content_kept config history before now fixed runs;
-      grammar = report_grammar config detail history h.options h.possible h.brief.numbers;
-      refusals = ruled config detail history h;
-      requests = λ honest of. report_serves config detail history before now h long runs (all_honest config detail history h honest) of;
-      honest = λ of.
-          subst (ServesRequestsSoFar (submitted_of history) before.content) (sym same)
-          (so_far_served (submitted_of history) before.content first (honest_run config detail history before now h long runs (subst (IsOfADisk config.sectors before.content) same of)));
-      ready = subst IsReadyFirst (sym same) (report_ready config detail (honest_history history) (allowed h));
-      settled = subst IsSettled (sym same) (report_settled config detail (honest_history history) h.settled);
-      ring = λ moves. subst IsQuietRing (sym same) (report_quiet config detail (honest_history history) h.plain (allowed h) moves);
-      agreed = λ moves. subst AreStatesAgreed (sym same) (alike detail config (honest_history history) h.agreed moves);
-      ports = λ moves. report_ports config detail history;
-      causes = causes;
-      moves = λ moves. moves_before config.order report last (subst (ObeysMoves config.order) ended (ended_shown detail config history h.plain h.possible h.brief.reads moves));
-      rules = each_before move_rules report last (subst (ObeysEach move_rules) ended (ended_ruled_moves detail config history h.plain h.brief.reads));
-    }
-
--- with its last line
-pub ended_lawful : (config : Options) (detail : Detail) (history : List Happening) (before now : DiskSeen) → IsTold config detail history → HasLength before.content config.sectors → DiskRuns history (start_of config) before now → (detail ≡ Moves → HasCauses (kept_of detail (ended_report_of config detail history))) → IsLawful config detail (submitted_of history) before.content now.content (kept_of detail (ended_report_of config detail history))
-ended_lawful config detail history before now h long runs causes =
-    record {
-      begun = ended_begun config detail history;
-      kept = λ fixed. content_kept config history before now fixed runs;
-      grammar = ended_grammar config detail history h.options h.possible h.brief.numbers;
-      refusals = ended_ruled config detail history h;
-      requests = λ honest of. ended_serves config detail history before now h long runs (all_ended config detail history h honest) of;
-      honest = λ of. so_far_served (submitted_of history) before.content _ (ended_honest_run config detail history before now h long runs of);
-      ready =
-          of_part config detail history h IsReadyFirst (λ all. ended_ready config detail history (served_whole h all))
-          (report_ready config detail (honest_history history) (allowed h));
-      settled =
-          of_part config detail history h IsSettled (λ all. ended_settled config detail history (subst AreSettled all h.settled))
-          (report_settled config detail (honest_history history) h.settled);
-      ring = λ moves.
-          of_part config detail history h IsQuietRing (λ all. ended_quiet config detail history h.plain (served_whole h all) moves)
-          (report_quiet config detail (honest_history history) h.plain (allowed h) moves);
-      agreed = λ moves.
-          of_part config detail history h AreStatesAgreed (λ all. ended_alike detail config history (subst (λ (hs : List Happening). AreAgreed hs (start_of config)) all h.agreed) moves)
-          (alike detail config (honest_history history) h.agreed moves);
-      ports = λ moves. ended_ports config detail history;
-      causes = causes;
-      moves = ended_shown detail config history h.plain h.possible h.brief.reads;
-      rules = ended_ruled_moves detail config history h.plain h.brief.reads;
-    }
-
--- and the beginning of one
+-- the beginning of a report is lawful
 pub begun_lawful : (config : Options) (detail : Detail) (history : List Happening) (before : Option (List (List ℕ))) (said rest : List Line) → IsTold config detail history
     → said ++ rest ≡ ended_report_of config detail history
     → (IsOfADisk config.sectors before (honest_part (kept_of detail said)) → HasRunSoFar (submitted_of history) before (honest_part (kept_of detail said)))
@@ -460,6 +400,25 @@ begun_lawful config detail history before said rest h all run causes =
       causes = λ moves. caused_before one other (subst HasCauses (sym split) (causes moves));
       moves = λ moves. moves_before config.order one other (subst (ObeysMoves config.order) (sym split) (ended_shown detail config history h.plain h.possible h.brief.reads moves));
       rules = each_before move_rules one other (subst (ObeysEach move_rules) (sym split) (ended_ruled_moves detail config history h.plain h.brief.reads));
+    }
+
+-- and all of it, without its last line and with it
+pub report_lawful : (config : Options) (detail : Detail) (history : List Happening) (before now : DiskSeen) → IsTold config detail history → HasLength before.content config.sectors → DiskRuns history (start_of config) before now → (detail ≡ Moves → HasCauses (kept_of detail (ended_report_of config detail history))) → IsLawful config detail (submitted_of history) before.content now.content (kept_of detail (report_of config detail history))
+report_lawful config detail history before now h long runs causes = record {
+  begun = report_begun config detail history;
+  so_far = begun_lawful config detail history before.content (report_of config detail history) (End ∷ []) h refl (report_honest_run config detail history before now h long runs) causes;
+  kept = λ fixed. content_kept config history before now fixed runs;
+  requests = λ honest of. report_serves config detail history before now h long runs (all_honest config detail history h honest) of;
+}
+
+pub ended_lawful : (config : Options) (detail : Detail) (history : List Happening) (before now : DiskSeen) → IsTold config detail history → HasLength before.content config.sectors → DiskRuns history (start_of config) before now → (detail ≡ Moves → HasCauses (kept_of detail (ended_report_of config detail history))) → IsLawful config detail (submitted_of history) before.content now.content (kept_of detail (ended_report_of config detail history))
+ended_lawful config detail history before now h long runs causes =
+    let report = ended_report_of config detail history in
+    record {
+      begun = ended_begun config detail history;
+      so_far = begun_lawful config detail history before.content report [] h (append-nil report) (ended_honest_run config detail history before now h long runs) causes;
+      kept = λ fixed. content_kept config history before now fixed runs;
+      requests = λ honest of. ended_serves config detail history before now h long runs (all_ended config detail history h honest) of;
     }
 
 -- no lines

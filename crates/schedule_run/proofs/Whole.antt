@@ -26,7 +26,7 @@ use Rattle.vbd_model.specs.Report.{report_of, ended_report_of}
 use Rattle.vbd_model.proofs.Running.{all_does-append, after_rings, disk_lift, report_lift, ended_report_lift}
 use Rattle.schedule_run.specs.Lawful.{HasCauses, IsLawful, IsLawfulSoFar}
 use Rattle.schedule_run.proofs.FewReads.{brief_first}
-use Rattle.schedule_run.proofs.Caused.{report_caused, ended_caused}
+use Rattle.schedule_run.proofs.Caused.{ended_caused}
 use Rattle.schedule_run.proofs.Lawful as of_rings
 
 -- what happened, to the ring's machine
@@ -77,7 +77,7 @@ pub report_lawful : (config : Options) (detail : Detail) (history : List Happeni
 report_lawful config detail history before now h long runs =
     subst (λ (report : List Line). IsLawful config detail (submitted config history) before.content now.content (kept_of detail report)) (sym (report_lift config detail history))
     (of_rings.report_lawful config detail (to_rings config history) before now h long (disk_lift history (start_of config) before now runs)
-    (subst (λ (report : List Line). detail ≡ Moves → HasCauses (kept_of detail report)) (report_lift config detail history) (report_caused config detail history h.options (few_segments config detail history h))))
+    (ended_lift_caused config detail history h))
 
 pub ended_lawful : (config : Options) (detail : Detail) (history : List Happening) (before now : DiskSeen) → IsTold config detail history → HasLength before.content config.sectors → DiskRuns history (start_of config) before now → IsLawful config detail (submitted config history) before.content now.content (kept_of detail (ended_report_of config detail history))
 ended_lawful config detail history before now h long runs =

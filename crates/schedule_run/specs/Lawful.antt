@@ -86,24 +86,7 @@ pub record ServesRequestsSoFar (jobs : List Submission) (before : Option (List (
   pub unbroken : IsUnbroken report
   pub states : AreStates report
 
--- a report begins with the options; its lines are lines of the grammar that its text gives back; a read-only disk holds what it held; each submission has the answer of the first rule that applies, as the lines before it say, also after a hostile line; and where it shows the moves, they obey each rule on them, the front makes at most 4 ports in an epoch, and each `halt`, each `broken`, each `answer` and each line of the front's state stands exactly where its cause does, whatever a hostile hand overwrites. A report that no hostile hand touched serves its requests as the plain disk does, from what the disk held to what it holds, where the disk tells that, or what the report shows of it are the calls of a disk. Of any other, the lines before the first hostile one do so, the front was connected before the first `quiet` line of them, no `settle` ran out of rounds, and where moves are shown the ring is served and read at each of their `quiet` lines, and both ends have said that they are connected, or, after a `closing` line, that they are closed
-pub record IsLawful (config : Options) (detail : Detail) (jobs : List Submission) (before now : Option (List (List ℕ))) (report : List Line) : Type 0 where
-  pub begun : IsBegun config detail report
-  pub kept : config.read_only ≡ true → now ≡ before
-  pub grammar : IsInGrammar report
-  pub refusals : AreRuled jobs report
-  pub requests : IsHonest report → IsOfADisk config.sectors before report → ServesRequests config jobs before now report
-  pub honest : IsOfADisk config.sectors before (honest_part report) → ServesRequestsSoFar jobs before (honest_part report)
-  pub ready : IsReadyFirst (honest_part report)
-  pub settled : IsSettled (honest_part report)
-  pub ring : detail ≡ Moves → IsQuietRing (honest_part report)
-  pub agreed : detail ≡ Moves → AreStatesAgreed (honest_part report)
-  pub ports : detail ≡ Moves → AreFewPorts report
-  pub causes : detail ≡ Moves → HasCauses report
-  pub moves : detail ≡ Moves → ObeysMoves config.order report
-  pub rules : ObeysEach move_rules report
-
--- so is the beginning of one, as far as it was written
+-- a report, as far as it was written, begins with the options; its lines are lines of the grammar that its text gives back; each submission has the answer of the first rule that applies, as the lines before it say, also after a hostile line; and where it shows the moves, they obey each rule on them, the front makes at most 4 ports in an epoch, and each `halt`, each `broken`, each `answer` and each line of the front's state stands exactly where its cause does, whatever a hostile hand overwrites. Its lines before the first hostile one serve the requests as the plain disk does, from what the disk held, where the disk tells that, or what they show of it are the calls of a disk; the front was connected before the first `quiet` line of them, no `settle` ran out of rounds, and where moves are shown the ring is served and read at each of their `quiet` lines, and both ends have said that they are connected, or, after a `closing` line, that they are closed
 pub record IsLawfulSoFar (config : Options) (detail : Detail) (jobs : List Submission) (before : Option (List (List ℕ))) (report : List Line) : Type 0 where
   pub begun : IsBegunSoFar config detail report
   pub grammar : IsInGrammar report
@@ -117,6 +100,13 @@ pub record IsLawfulSoFar (config : Options) (detail : Detail) (jobs : List Submi
   pub causes : detail ≡ Moves → HasCauses report
   pub moves : detail ≡ Moves → ObeysMoves config.order report
   pub rules : ObeysEach move_rules report
+
+-- so is a whole report, which has a first line; a read-only disk holds what it held; and where no hostile hand touched the report, all of it serves the requests, from what the disk held to what it holds
+pub record IsLawful (config : Options) (detail : Detail) (jobs : List Submission) (before now : Option (List (List ℕ))) (report : List Line) : Type 0 where
+  pub begun : IsBegun config detail report
+  pub so_far : IsLawfulSoFar config detail jobs before report
+  pub kept : config.read_only ≡ true → now ≡ before
+  pub requests : IsHonest report → IsOfADisk config.sectors before report → ServesRequests config jobs before now report
 
 -- a lawful report was told, which echoes these events and falls into the lines of each; each event that submits has numbers of the grammar; and the faults that it tells are those of the disk
 pub record HasLawfulReport (config : Options) (events : List Event) (old new : Outside) : Type 0 where
