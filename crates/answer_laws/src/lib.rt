@@ -20,7 +20,7 @@ ghost use Rattle.pipeline_laws.specs.Answered.{AreAnsweredOnce, IsQuietAnswered}
 ghost use Rattle.report_laws.specs.Settled.{IsSettled};
 ghost use Rattle.answer_laws.specs.Honest.{is_honest_schedule};
 ghost use Rattle.answer_laws.specs.Okay.{AreAnsweredByFaults};
-ghost use Rattle.answer_laws.specs.Counts.{submissions_in, answers_in, tally_of, AreAllAnswered};
+ghost use Rattle.answer_laws.specs.Counts.{submissions_in, answers_in, counts_of, CountsThemAll, AreAllAnswered};
 ghost use Rattle.answer_laws.specs.Wrong.{failed_alone, failed_at_another, okay_after_fault, failed_before, unsupported};
 
 /// A reply, and the answer that the front takes, is `error` where a `fault` line of its request stands
@@ -28,6 +28,12 @@ ghost use Rattle.answer_laws.specs.Wrong.{failed_alone, failed_at_another, okay_
 pub fn a_request_is_answered_by_its_faults()
     ensures run { (report : List Line) (first : List (List ℕ)) (disk : Disk) → after report (disk_of first) ≡ Some disk → AreAnsweredByFaults report }
     ensures before { (first more : List Line) → AreAnsweredByFaults (first ++ more) → AreAnsweredByFaults first }
+{}
+
+/// A tally has the numbers of the lines of each kind: a refused request is among the refused alone,
+/// and both forms of an effect are effects.
+pub fn the_counts_are_those_of_the_lines()
+    ensures { CountsThemAll }
 {}
 
 /// A report that says `quiet`, and has no submission after that, has as many answers as submissions: each
@@ -42,7 +48,7 @@ pub fn a_quiet_report_has_an_answer_for_each_submission()
 pub fn a_settled_schedule_is_counted_as_answered()
     ensures { (options : Options) (detail : Detail) (events : List Event) (report : List Line)
         → Echoes options detail (events ++ Settle ∷ []) report → AreAnsweredOnce report → IsQuietAnswered report → IsSettled report
-        → AreAllAnswered (tally_of report) }
+        → AreAllAnswered (counts_of report) }
 {}
 
 /// A report is honest exactly where the schedule that it echoes has no hostile line.

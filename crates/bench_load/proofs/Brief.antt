@@ -1,16 +1,13 @@
 -- A generated schedule has at most 129 bytes a line.
-use Rattle.std.proofs.Common.{◌≡◌, ℕ, zero, suc, ◌+◌, ◌*◌, ◌%◌, ◌≤◌, ◌==◌, nat_le, Bool, true, false, cond, List, [], ◌∷◌, ◌++◌, length, length-append, arith}
+use Rattle.std.proofs.Common.{ℕ, zero, suc, ◌+◌, ◌*◌, ◌%◌, ◌≤◌, List, [], ◌∷◌, ◌++◌, length, length-append, arith}
 use Rattle.rand_pcg.specs.Lcg.{Lcg}
 use Rattle.schedule_text.specs.declared.event.Event.{Event}
 use Rattle.schedule_text.specs.declared.event.Event.TheVariants as events
 use Rattle.schedule_text.specs.Event.{event_text}
-use Rattle.bench_load.specs.Generated.{Words, words_of, after_words, event_by, lines_from, generator_of, schedule_of}
+use Rattle.bench_load.specs.Generated.{Words, words_of, after_words, event_by, lines_from, generator_of}
 use Rattle.bench_load.specs.Text.{IsShort, line_bytes, bytes_of, EachIsBrief}
+use Rattle.bench_load.proofs.Forms.{by_form}
 use Rattle.bench_load.proofs.Short.{read_short, write_short, job_short, turn_short}
-
-chosen : (b : Bool) (x y : Event) → IsShort x → IsShort y → IsShort (cond b x y)
-chosen true x y p q = p
-chosen false x y p q = q
 
 settle_short : IsShort events.Settle
 settle_short = omega arith
@@ -18,11 +15,12 @@ settle_short = omega arith
 -- the line of three words
 line_short : (w : Words) → IsShort (event_by w)
 line_short w =
-    chosen (nat_le (w.kind % 10) 3) _ _ (write_short (w.place % 4096) (1 + w.size % 16) w.kind (omega arith) (omega arith))
-    (chosen (nat_le (w.kind % 10) 6) _ _ (read_short (w.place % 4096) (1 + w.size % 16) (omega arith) (omega arith))
-    (chosen (w.kind % 10 == 7) _ _ (turn_short (1 + w.size % 500) (omega arith))
-    (chosen (w.kind % 10 == 8) _ _ (job_short (1 + w.place % 8) (1 + w.size % 300) (omega arith) (omega arith))
-    settle_short)))
+    by_form IsShort w
+    (write_short (w.place % 4096) (1 + w.size % 16) w.kind (omega arith) (omega arith))
+    (read_short (w.place % 4096) (1 + w.size % 16) (omega arith) (omega arith))
+    (turn_short (1 + w.size % 500) (omega arith))
+    (job_short (1 + w.place % 8) (1 + w.size % 300) (omega arith) (omega arith))
+    settle_short
 
 -- one line more
 line_more : (event : Event) (rest : List Event) (n : ℕ) → IsShort event → length (bytes_of rest) ≤ n → length (bytes_of (event ∷ rest)) ≤ 129 + n

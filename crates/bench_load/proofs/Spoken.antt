@@ -1,5 +1,5 @@
 -- Each line of a generated schedule is read as that line and as no other.
-use Rattle.std.proofs.Common.{◌≡◌, ℕ, zero, suc, ◌+◌, ◌%◌, ◌<◌, ◌≤◌, ◌^◌, ◌==◌, nat_le, Bool, true, false, cond, [], ◌∷◌, All, codes, decimal, refl, sym, ap, ◌∙◌, arith}
+use Rattle.std.proofs.Common.{◌≡◌, ℕ, zero, suc, ◌+◌, ◌%◌, ◌<◌, ◌≤◌, ◌^◌, true, [], ◌∷◌, All, codes, decimal, refl, sym, ap, ◌∙◌, arith}
 use Rattle.std.specs.Prelude.{max}
 use Rattle.std.proofs.lemmas.Bool.Decides.{nat_tests}
 use Rattle.std.proofs.lemmas.List.Elements.{All-nil, All-cons, All-append}
@@ -17,6 +17,7 @@ use Rattle.schedule_text.proofs.Again.{count_again}
 use Rattle.schedule_text.proofs.EventSpelling.{says_event}
 use Rattle.bench_load.specs.Generated.{Words, words_of, after_words, event_by, lines_from, generator_of}
 use Rattle.bench_load.specs.Grammar.{IsSpoken, EachIsSpoken}
+use Rattle.bench_load.proofs.Forms.{by_form}
 use Rattle.bench_load.proofs.Widths.{kind_fits}
 use Rattle.bench_load.proofs.Unbroken.{IsUnbroken, literal, decimal_unbroken, hex8_unbroken, joined_unbroken}
 
@@ -109,25 +110,18 @@ clear_write s c t h some i j = record {
       (literal (codes "submit") refl, (literal (codes "write") refl, (unbroken_small s h, (unbroken_small c i, (hex8_unbroken t, tt)))));
 }
 
-chosen : (b : Bool) (x y : Event) → IsSpoken x → IsSpoken y → IsSpoken (cond b x y)
-chosen true x y p q = p
-chosen false x y p q = q
-
 is_number_there : (n : ℕ) → 0 < n → n ≤ 1000000 → is_event_allowed (events.Turn n) ≡ true
 is_number_there n some few = grind (arith, nat_tests)
 
 -- the line of three words, of which the first has 32 bits
 line_spoken : (w : Words) → w.kind < 2 ^ 32 → IsSpoken (event_by w)
 line_spoken w h =
-    chosen (nat_le (w.kind % 10) 3) _ _
+    by_form IsSpoken w
     (spoken _ (clear_write (w.place % 4096) (1 + w.size % 16) w.kind (omega arith) (omega arith) (omega arith) h))
-    (chosen (nat_le (w.kind % 10) 6) _ _
     (spoken _ (clear_read (w.place % 4096) (1 + w.size % 16) (omega arith) (omega arith) (omega arith)))
-    (chosen (w.kind % 10 == 7) _ _
     (spoken _ (clear_turn (1 + w.size % 500) (omega arith) (is_number_there (1 + w.size % 500) (omega arith) (omega arith))))
-    (chosen (w.kind % 10 == 8) _ _
     (spoken _ (clear_job (1 + w.place % 8) (1 + w.size % 300) (omega arith) (omega arith) (both_numbers (1 + w.place % 8) (1 + w.size % 300) (omega arith) (omega arith) (omega arith) (omega arith))))
-    (spoken _ clear_settle))))
+    (spoken _ clear_settle)
   where
     both_numbers : (k n : ℕ) → 0 < k → k ≤ 1000000 → 0 < n → n ≤ 1000000 → is_event_allowed (events.Job k n) ≡ true
     both_numbers k n a b c d = rw (is_number_there k a b, is_number_there n c d) refl

@@ -2,5 +2,4 @@ pub mod Generated
 pub mod Left
 pub mod Text
 pub mod Summary
-pub mod Counts
 pub mod Grammar

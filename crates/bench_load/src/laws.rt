@@ -1,6 +1,5 @@
-// What holds of every generated schedule, and of every tally.
+// What holds of every generated schedule.
 ghost use Rattle.bench_load.specs.Grammar.{EachIsSpoken};
-ghost use Rattle.bench_load.specs.Counts.{CountsThemAll};
 ghost use Rattle.bench_load.specs.Text.{EachIsBrief};
 
 /// Each line of a generated schedule is in the grammar of schedules, and its text is read as that
@@ -13,10 +12,4 @@ pub fn the_schedule_is_in_the_grammar()
 /// a schedule's bytes.
 pub fn the_schedule_is_brief()
     ensures { EachIsBrief }
-{}
-
-/// A tally has the numbers of the lines of each kind: a refused request is among the refused alone,
-/// and both forms of an effect are effects.
-pub fn the_counts_are_those_of_the_lines()
-    ensures { CountsThemAll }
 {}

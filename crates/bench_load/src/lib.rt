@@ -10,9 +10,7 @@ mod schedule;
 mod summary;
 mod words;
 
-pub use laws::{
-    the_counts_are_those_of_the_lines, the_schedule_is_brief, the_schedule_is_in_the_grammar,
-};
+pub use laws::{the_schedule_is_brief, the_schedule_is_in_the_grammar};
 pub use load::BenchLoad;
 pub use schedule::BenchSchedule;
 pub use summary::write_summary;

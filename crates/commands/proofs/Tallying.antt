@@ -1,5 +1,6 @@
 -- The counts of a run of the generated schedule, over plain variables.
-use Rattle.std.proofs.Common.{◌≡◌, ℕ, zero, suc, ◌<◌, ◌≤◌, ◌==◌, ◌^◌, ◌-◌, ◌%◌, ◌⊎◌, nat_le, Bool, true, false, cond, List, [], ◌∷◌, ◌++◌, Option, Some, Ok, Err, inl, inr, length, refl, sym, ap, ◌∙◌, subst, arith}
+use Rattle.std.proofs.Common.{◌≡◌, ℕ, zero, suc, ◌<◌, ◌≤◌, ◌^◌, ◌-◌, ◌⊎◌, true, List, [], ◌∷◌, ◌++◌, Option, Some, Ok, Err, inl, inr, length, refl, sym, ap, ◌∙◌, subst, arith}
+use Rattle.std.specs.Prelude.{fold}
 use Rattle.std.proofs.lemmas.List.{length-replicate}
 use Rattle.blk_io.specs.Outside.{Rose, SourceSeen}
 use Rattle.blk_io.specs.Disk.{DiskSeen, HasLength, IsAttached, attached_of, zero_sector}
@@ -9,7 +10,7 @@ use Rattle.schedule_text.specs.declared.recorder.Tally.{Tally}
 use Rattle.schedule_text.specs.declared.event.Event.{Event}
 use Rattle.schedule_text.specs.declared.event.Event.TheVariants.{Settle}
 use Rattle.schedule_text.specs.declared.line.Line.{Line}
-use Rattle.schedule_text.specs.Recorder.{Told}
+use Rattle.schedule_text.specs.Recorder.{Told, counted}
 use Rattle.schedule_text.specs.Recorders.{counting}
 use Rattle.machine_pipeline.specs.Submissions.{jobs_of}
 use Rattle.plain_disk.specs.Echo.{Echoes}
@@ -22,14 +23,15 @@ use Rattle.schedule_run.specs.declared.schedule.RunStop.TheVariants as run
 use Rattle.rand_pcg.specs.Lcg.{Lcg}
 use Rattle.bench_load.specs.Generated.{Words, words_of, after_words, event_by, lines_from, generator_of, schedule_of}
 use Rattle.bench_load.specs.Text.{schedule_bytes}
+use Rattle.bench_load.proofs.Forms.{by_form}
 use Rattle.bench_load.proofs.Brief.{each_is_brief}
 use Rattle.commands.specs.declared.status.Stop.{Stop}
 use Rattle.commands.specs.Scene.{options_of, no_options, bytes_limit}
 use Rattle.commands.specs.Ending.{run_stop}
-use Rattle.answer_laws.specs.Counts.{no_counts, tally_of, AreAllAnswered}
+use Rattle.answer_laws.specs.Counts.{no_counts, counts_of, AreAllAnswered}
 use Rattle.answer_laws.specs.Honest.{is_honest_event, is_honest_schedule}
 use Rattle.answer_laws.proofs.Honest.{as_honest}
-use Rattle.answer_laws.proofs.Counted.{settled_counts}
+use Rattle.answer_laws.proofs.Counted.{counts_them_all, settled_counts}
 use Rattle.legal_laws.proofs.Legal.{honest_whole}
 use Rattle.commands.specs.Bench.{zeros, IsZeroDisk, IsTallyOf, Tallies}
 use Rattle.commands.proofs.Runs.{run_left}
@@ -43,16 +45,8 @@ some_tally : (a b : Tally) → Some a ≡ Some b → a ≡ b
 some_tally a b e = cc
 
 -- a generated schedule has no hostile line
-chosen_honest : (b : Bool) (x y : Event) → is_honest_event x ≡ true → is_honest_event y ≡ true → is_honest_event (cond b x y) ≡ true
-chosen_honest true x y p q = p
-chosen_honest false x y p q = q
-
 line_honest : (w : Words) → is_honest_event (event_by w) ≡ true
-line_honest w =
-    chosen_honest (nat_le (w.kind % 10) 3) _ _ refl
-    (chosen_honest (nat_le (w.kind % 10) 6) _ _ refl
-    (chosen_honest (w.kind % 10 == 7) _ _ refl
-    (chosen_honest (w.kind % 10 == 8) _ _ refl refl)))
+line_honest w = by_form (λ (e : Event). is_honest_event e ≡ true) w refl refl refl refl refl
 
 lines_honest : (n : ℕ) (g : Lcg) → is_honest_schedule (lines_from n g ++ Settle ∷ []) ≡ true
 lines_honest zero g = refl
@@ -62,7 +56,7 @@ generated_honest : (seed count : ℕ) → is_honest_schedule (schedule_of seed c
 generated_honest seed count = lines_honest count (generator_of seed)
 
 -- so all is answered when it ends
-generated_answered : (seed count : ℕ) (left : Option (List (List ℕ))) (report : List Line) → Echoes (options_of no_options 4096) Lines (schedule_of seed count) report → IsLawful (options_of no_options 4096) Lines (jobs_of (schedule_of seed count)) (Some zeros) left report → AreAllAnswered (tally_of report)
+generated_answered : (seed count : ℕ) (left : Option (List (List ℕ))) (report : List Line) → Echoes (options_of no_options 4096) Lines (schedule_of seed count) report → IsLawful (options_of no_options 4096) Lines (jobs_of (schedule_of seed count)) (Some zeros) left report → AreAllAnswered (counts_of report)
 generated_answered seed count left report echo lawful =
     let honest : IsHonest report = as_honest (options_of no_options 4096) Lines (schedule_of seed count) report echo ∙ generated_honest seed count in
     let served = lawful.requests honest tt in
@@ -76,7 +70,7 @@ tallied seed count disk disk' tally content h =
     let lawful =
     subst (λ es. IsLawful (options_of no_options 4096) Lines (jobs_of es) (Some zeros) disk'.content h.report) same
     (subst (λ c. IsLawful (options_of no_options 4096) Lines (jobs_of h.events) c disk'.content h.report) content h.lawful) in
-    let counts : tally ≡ tally_of h.report = some_tally tally (tally_of h.report) (ap (λ (t : Told). t.tally) h.told) in
+    let counts : tally ≡ counts_of h.report = some_tally tally (fold counted no_counts h.report) (ap (λ (t : Told). t.tally) h.told) ∙ counts_them_all h.report in
     record {
       report = h.report;
       left = disk'.content;

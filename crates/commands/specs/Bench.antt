@@ -8,7 +8,7 @@ use Rattle.schedule_text.specs.declared.line.Detail.TheVariants.{Lines}
 use Rattle.schedule_text.specs.declared.line.Line.{Line}
 use Rattle.schedule_text.specs.declared.recorder.Tally.{Tally}
 use Rattle.plain_disk.specs.Echo.{Echoes}
-use Rattle.answer_laws.specs.Counts.{tally_of, AreAllAnswered}
+use Rattle.answer_laws.specs.Counts.{counts_of, AreAllAnswered}
 use Rattle.machine_pipeline.specs.Submissions.{jobs_of}
 use Rattle.schedule_run.specs.Lawful.{IsLawful}
 use Rattle.bench_load.specs.Generated.{schedule_of}
@@ -32,7 +32,7 @@ pub record IsTallyOf (schedule : List Event) (tally : Tally) : Type 0 where
   pub left : Option (List (List ℕ))
   pub echo : Echoes (options_of no_options 4096) Lines schedule report
   pub lawful : IsLawful (options_of no_options 4096) Lines (jobs_of schedule) (Some zeros) left report
-  pub counts : tally ≡ tally_of report
+  pub counts : tally ≡ counts_of report
   pub all_answered : AreAllAnswered tally
 
 -- there is that tally, or no memory
