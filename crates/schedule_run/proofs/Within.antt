@@ -6,7 +6,7 @@ use Rattle.vbd_model.specs.World.{World}
 use Rattle.vbd_model.specs.Happening.{Happening, happens}
 use Rattle.vbd_model.specs.Leads.{Moment, StopsShowing, LacksMemory, Ends, Goes}
 use Rattle.vbd_model.specs.Mappings.{mappings_of}
-use Rattle.schedule_run.specs.Machine.{HasSmallCounts, IsReached, IsRunning}
+use Rattle.schedule_run.specs.Machine.{Run, HasSmallCounts, IsReached, IsRunning}
 use Rattle.schedule_run.proofs.Counts.{reached_on}
 
 -- one more event
@@ -24,9 +24,10 @@ ends_reached : (kind so_far : List Happening → Type 0) (result : Result (Unit 
 ends_reached kind so_far (Ok done) a b e r = subst IsReached (sym e.world) (reached_on a.world e.history r)
 ends_reached kind so_far (Err stop) a b e r = stopped_reached e.history e.last stop a b e.stopped r
 
-pub runs_on : (kind so_far : List Happening → Type 0) (n : ℕ) (result : Result (Unit {0}) RecordStop) (a b : Moment) (events : ℕ) → n ≤ 10 ^ 10 → events < 10 ^ 9 → Goes kind so_far n result a b → IsRunning a.world events → IsRunning b.world (events + 1)
-runs_on kind so_far n result a b events le few goes runs = record {
-  counts = within_on a.world b.world events n le few goes.keeps.made runs.counts;
+pub runs_on : (kind so_far : List Happening → Type 0) (n : ℕ) (result : Result (Unit {0}) RecordStop) (a b : Moment) (events : ℕ) (m : Run) → n ≤ 10 ^ 10 → Goes kind so_far n result a b
+    → record { world = a.world; events = events } ≡ m → m.events < 10 ^ 9 → IsRunning a.world events → IsRunning b.world (events + 1)
+runs_on kind so_far n result a b events m le goes is few runs = record {
+  counts = within_on a.world b.world events n le (subst (λ (x : Run). x.events < 10 ^ 9) (sym is) few) goes.keeps.made runs.counts;
   reached = ends_reached kind so_far result a b goes.ends runs.reached;
 }
 

@@ -7,12 +7,12 @@ use Rattle.std.proofs.lemmas.List.Folds.{list_any-append, list_all-append}
 use Rattle.schedule_text.specs.declared.line.Line.{Line}
 use Rattle.schedule_text.specs.declared.line.Line.TheVariants as lines
 use Rattle.blk_base.specs.Options.{Options}
-use Rattle.schedule_text.specs.declared.line.Detail.{Detail}
+use Rattle.schedule_text.specs.declared.line.Detail.TheVariants.{Moves}
 use Rattle.plain_disk.specs.Honest.{is_honest}
 use Rattle.report_rules.specs.Obeys.{Obeys}
 use Rattle.checked_rules.specs.Lines.{is_begin, shows_moves, is_end, is_move}
 use Rattle.trace_check.specs.Outline.{Outline, no_lines, outlined, allows_order}
-use Rattle.checked_rules.specs.Rules.{IsOrderAt, WhereShown}
+use Rattle.checked_rules.specs.Rules.{IsOrderAt}
 use Rattle.checked_rules.proofs.Listed.{only_begin_shows}
 
 -- the outline is what these lines say
@@ -125,17 +125,14 @@ either_true false b e none = absurd (true≢false (sym e ∙ none))
 first_shows : (line : Line) (rest : List Line) → Obeys IsOrderAt (line ∷ rest) → list_any shows_moves (line ∷ rest) ≡ true → shows_moves line ≡ true
 first_shows line rest order shown = either_true (shows_moves line) (list_any shows_moves rest) shown (later_unshown (line ∷ []) rest (λ e. no_more [] line e) order)
 
-is_a_begin : (line : Line) (P : Line → Type 0) → ((config : Options) (d : Detail) → P (lines.Begin config d)) → is_begin line ≡ true → P line
-is_a_begin (lines.Begin config d) P begins e = begins config d
-is_a_begin line P begins e = absurd (true≢false (sym e))
+-- a report that shows moves begins with the line that says so
+begins_with : (first : Line) (rest : List Line) → shows_moves first ≡ true → (config : Options) × (later : List Line) × (first ∷ rest ≡ lines.Begin config Moves ∷ later)
+begins_with (lines.Begin config Moves) rest is = (config, rest, refl)
+begins_with first rest is = absurd (true≢false (sym is))
 
--- where moves are shown, a rule that every first line keeps, and that is kept where they are shown, is kept by all lines
-pub obeys_shown : (IsAllowed : List Line → Line → Type 0) (report : List Line) → ((config : Options) (d : Detail) → IsAllowed [] (lines.Begin config d)) → Obeys IsOrderAt report
-    → list_any shows_moves report ≡ true → Obeys (WhereShown IsAllowed) report → Obeys IsAllowed report
-obeys_shown IsAllowed report begins order shown obeys [] after line is = is_a_begin line (IsAllowed []) begins ((order [] after line is).first refl)
-obeys_shown IsAllowed report begins order shown obeys (first ∷ before) after line is =
-    let heads = first_shows first (before ++ line ∷ after) (subst (λ xs. Obeys IsOrderAt xs) is order) (subst (λ xs. list_any shows_moves xs ≡ true) is shown) in
-    obeys (first ∷ before) after line is (ap (λ b. b || list_any shows_moves before) heads)
+pub begins_shown : (report : List Line) → Obeys IsOrderAt report → list_any shows_moves report ≡ true → (config : Options) × (later : List Line) × (report ≡ lines.Begin config Moves ∷ later)
+begins_shown [] order shown = absurd (true≢false (sym shown))
+begins_shown (first ∷ rest) order shown = begins_with first rest (first_shows first rest order shown)
 
 -- lines before which moves aren't shown, and after one of which they are: none
 pub shown_first : (before : List Line) (line : Line) → IsOrderAt before line → list_any shows_moves before ≡ false → shows_moves line ≡ true → before ≡ []

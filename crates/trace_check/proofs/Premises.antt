@@ -1,19 +1,23 @@
 -- What lines that keep all rules keep: the order, the rules on requests up to the first hostile line, and the rules on moves where these are shown.
-use Rattle.std.proofs.Common.{◌≡◌, ◌&&◌, Bool, true, false, List, ◌∷◌, ◌++◌, refl, sym, ap, ◌∙◌, arith, true≢false}
+use Rattle.std.proofs.Common.{◌≡◌, ◌&&◌, Bool, true, false, List, ◌∷◌, refl, sym, ap, subst, ◌∙◌, arith, true≢false}
 use Rattle.std.specs.Prelude.{IsTrue}
 use Rattle.std.specs.List.{list_all, list_any}
 use Rattle.std.proofs.lemmas.List.Folds.{list_all-append}
+use Rattle.std.proofs.lemmas.List.Elements.{All-drop}
 use Rattle.schedule_text.specs.declared.line.Line.{Line}
 use Rattle.plain_disk.specs.Honest.{is_honest}
 use Rattle.report_rules.specs.Obeys.{Obeys}
-use Rattle.report_rules.specs.Touch.{IsTouchAt}
-use Rattle.report_rules.specs.Mapped.{IsMapAnswerAt}
-use Rattle.report_rules.specs.Steps.{IsStepAt}
+use Rattle.report_rules.specs.Touch.{AreTouches}
+use Rattle.report_rules.specs.Mapped.{AreMapAnswers}
+use Rattle.report_rules.specs.Steps.{AreSteps}
 use Rattle.request_check.specs.Rules.{KeepsRequests}
+use Rattle.checked_rules.specs.declared.rule.Rule.{Rule}
 use Rattle.checked_rules.specs.declared.rule.Rule.TheVariants as rule
 use Rattle.checked_rules.specs.Lines.{shows_moves}
-use Rattle.checked_rules.specs.Rules.{IsOrderAt, WhereShown, IsTouchRuleAt, IsFetchAt, KeepsEach, KeepsAll, all_rules}
-use Rattle.trace_check.proofs.Outlines.{obeys_shown}
+use Rattle.checked_rules.specs.Rules.{IsOrderAt, Keeps, KeepsEach, KeepsAll, ObeysEach, move_rules, all_rules}
+use Rattle.checked_rules.specs.Shown.{OfShown}
+use Rattle.checked_rules.proofs.Shown.{touches, answers, steps}
+use Rattle.trace_check.proofs.Outlines.{begins_shown}
 
 pub in_order : (report : List Line) → Obeys KeepsAll report → Obeys IsOrderAt report
 in_order report keeps before after line is = keeps before after line is 0 rule.Order (omega arith)
@@ -42,21 +46,21 @@ keeps_requests report honest keeps before after line is =
       quiet = h 10 rule.Order (omega arith) yes;
     }
 
--- where moves are shown those on them are kept from the first line on
-touch_at : (report before after : List Line) (line : Line) → Obeys KeepsAll report → report ≡ before ++ line ∷ after → WhereShown IsTouchRuleAt before line
-touch_at report before after line keeps is = keeps before after line is 12 rule.Order (omega arith)
+-- the rules on moves are the last ones
+keeps_moves : (report : List Line) → Obeys KeepsAll report → ObeysEach move_rules report
+keeps_moves report keeps k r within before after line is = All-drop (λ (rule : Rule). Keeps rule before line) 11 all_rules (keeps before after line is) k r within
 
-fetch_at : (report before after : List Line) (line : Line) → Obeys KeepsAll report → report ≡ before ++ line ∷ after → WhereShown IsFetchAt before line
-fetch_at report before after line keeps is = keeps before after line is 13 rule.Order (omega arith)
+-- where moves are shown they say what they say from the first line on
+of_shown : (Claim : List Line → Type 0) → OfShown Claim → (report : List Line) → list_any shows_moves report ≡ true → Obeys KeepsAll report → Claim report
+of_shown Claim says report shown keeps =
+    let b = begins_shown report (in_order report keeps) shown in
+    subst Claim (sym b.2) (says b.0 b.1 (subst (ObeysEach move_rules) b.2 (keeps_moves report keeps)))
 
-pub keeps_touches : (report : List Line) → list_any shows_moves report ≡ true → Obeys KeepsAll report → Obeys IsTouchAt report
-keeps_touches report shown keeps =
-    obeys_shown IsTouchAt report (λ config d. tt) (in_order report keeps) shown (λ before after line is yes. (touch_at report before after line keeps is yes).touch)
+pub keeps_touches : (report : List Line) → list_any shows_moves report ≡ true → Obeys KeepsAll report → AreTouches report
+keeps_touches report shown keeps = of_shown AreTouches touches report shown keeps
 
-pub keeps_answers : (report : List Line) → list_any shows_moves report ≡ true → Obeys KeepsAll report → Obeys IsMapAnswerAt report
-keeps_answers report shown keeps =
-    obeys_shown IsMapAnswerAt report (λ config d. tt) (in_order report keeps) shown (λ before after line is yes. (touch_at report before after line keeps is yes).answer)
+pub keeps_answers : (report : List Line) → list_any shows_moves report ≡ true → Obeys KeepsAll report → AreMapAnswers report
+keeps_answers report shown keeps = of_shown AreMapAnswers answers report shown keeps
 
-pub keeps_steps : (report : List Line) → list_any shows_moves report ≡ true → Obeys KeepsAll report → Obeys IsStepAt report
-keeps_steps report shown keeps =
-    obeys_shown IsStepAt report (λ config d. tt) (in_order report keeps) shown (λ before after line is yes. (fetch_at report before after line keeps is yes).step)
+pub keeps_steps : (report : List Line) → list_any shows_moves report ≡ true → Obeys KeepsAll report → AreSteps report
+keeps_steps report shown keeps = of_shown AreSteps steps report shown keeps
