@@ -29,7 +29,6 @@ use Rattle.ring_laws.proofs.BackReads.{reads_of}
 use Rattle.ring_laws.proofs.Runs.{ended_overruns, ended_stretches, ended_named}
 use Rattle.pipeline_laws.specs.Run.{IsRun}
 use Rattle.disk_laws.specs.Run.{IsRunSoFar}
-use Rattle.pipeline_laws.specs.Answered.{AreAnsweredOnce, IsQuietAnswered}
 use Rattle.pipeline_laws.proofs.AnsweredRuns.{run_answers_once, run_answers_at_quiet}
 use Rattle.split_model.specs.World.{World, start_of}
 use Rattle.split_model.specs.Happening.{Happening, Pokes, OverwritesKey, DiskRuns, happens, after, lines_at, lines_of}
@@ -41,11 +40,11 @@ use Rattle.machine_pipeline.specs.Plain.{IsPlain}
 use Rattle.machine_pipeline.specs.Allowed.{AreServed, ArePossible}
 use Rattle.machine_pipeline.specs.Submissions.{submitted_at, submitted_of}
 use Rattle.machine_pipeline.proofs.HonestPart.{HostileAfter, HonestWith, HonestEnded, honest_with, honest_kept, honest_report, honest_ended, served_before, disk_runs_first, disk_part, submitted_part, kept_after, not_honest, CutOrWhole, cut_or_whole}
-use Rattle.pipeline_laws.specs.Submissions.{IsAnswerAt}
-use Rattle.pipeline_laws.specs.Unbroken.{is_breach}
+use Rattle.pipeline_laws.specs.Submissions.{IsAnswerAt, AreAnswered}
+use Rattle.pipeline_laws.specs.Unbroken.{is_breach, IsUnbroken}
 use Rattle.answer_laws.specs.Okay.{AreAnsweredByFaults}
 use Rattle.answer_laws.proofs.Answering.{run_answers_by_faults}
-use Rattle.pipeline_laws.specs.States.{IsStateAt}
+use Rattle.pipeline_laws.specs.States.{IsStateAt, AreStates}
 use Rattle.disk_laws.proofs.Reports.{reports_run, ended_reports_run}
 use Rattle.pipeline_laws.specs.Submissions.{submitted_of as steps_submit}
 use Rattle.disk_laws.proofs.Before.{HasRunSoFar, whole_report, ended_report, begun_report, begun_run, begun_answered, begun_once, begun_at_quiet, begun_unbroken, begun_states}
@@ -128,15 +127,17 @@ moves_before order report more h = record {
   own = obeys_before _ report more h.own;
 }
 
--- what a run of the plain disk answers
-once_of : (sectors : ℕ) (before now : Option (List (List ℕ))) (report : List Line) → IsRun sectors before now report → AreAnsweredOnce report
-once_of sectors before now report h = run_answers_once report h.first h.disk h.run
-
-statuses_of : (sectors : ℕ) (before now : Option (List (List ℕ))) (report : List Line) → IsRun sectors before now report → AreAnsweredByFaults report
-statuses_of sectors before now report h = run_answers_by_faults report h.first h.disk h.run
-
-quiet_of : (sectors : ℕ) (before now : Option (List (List ℕ))) (report : List Line) → IsRun sectors before now report → IsQuietAnswered report
-quiet_of sectors before now report h = run_answers_at_quiet report h.first h.disk h.run
+-- a run of the plain disk serves its requests
+serves : (config : Options) (jobs : List Submission) (before now : Option (List (List ℕ))) (report : List Line) → IsRun config.sectors before now report → AreAnswered jobs report → IsUnbroken report → AreStates report → ServesRequests config jobs before now report
+serves config jobs before now report run answered unbroken states = record {
+  disk = run;
+  submissions = answered;
+  once = run_answers_once report run.first run.disk run.run;
+  statuses = run_answers_by_faults report run.first run.disk run.run;
+  quiet = run_answers_at_quiet report run.first run.disk run.run;
+  unbroken = unbroken;
+  states = states;
+}
 
 -- a history of the machine with these options, brief enough
 pub record IsTold (config : Options) (detail : Detail) (history : List Happening) : Type 0 where
@@ -254,32 +255,18 @@ report_serves : (config : Options) (detail : Detail) (history : List Happening) 
     → ServesRequests config (submitted_of history) before.content now.content (kept_of detail (report_of config detail history))
 report_serves config detail history before now h long runs all of =
     let may = served_whole h all in
-    let run = reports_run config detail history before now h.plain may long runs of in
-    record {
-      disk = run;
-      submissions = reports_answered config detail history before now h.plain may long runs of;
-      once = once_of config.sectors before.content now.content _ run;
-      statuses = statuses_of config.sectors before.content now.content _ run;
-      quiet = quiet_of config.sectors before.content now.content _ run;
-      unbroken = reports_unbroken config detail history before now h.plain may long runs of;
-      states = reports_states config detail history before now h.plain may long runs of;
-    }
+    serves config (submitted_of history) before.content now.content (kept_of detail (report_of config detail history))
+    (reports_run config detail history before now h.plain may long runs of) (reports_answered config detail history before now h.plain may long runs of)
+    (reports_unbroken config detail history before now h.plain may long runs of) (reports_states config detail history before now h.plain may long runs of)
 
 ended_serves : (config : Options) (detail : Detail) (history : List Happening) (before now : DiskSeen) → IsTold config detail history → HasLength before.content config.sectors → DiskRuns history (start_of config) before now → honest_history history ≡ history
     → IsOfADisk config.sectors before.content (kept_of detail (ended_report_of config detail history))
     → ServesRequests config (submitted_of history) before.content now.content (kept_of detail (ended_report_of config detail history))
 ended_serves config detail history before now h long runs all of =
     let may = served_whole h all in
-    let run = ended_reports_run config detail history before now h.plain may long runs of in
-    record {
-      disk = run;
-      submissions = ended_answered config detail history before now h.plain may long runs of;
-      once = once_of config.sectors before.content now.content _ run;
-      statuses = statuses_of config.sectors before.content now.content _ run;
-      quiet = quiet_of config.sectors before.content now.content _ run;
-      unbroken = ended_unbroken config detail history before now h.plain may long runs of;
-      states = ended_states config detail history before now h.plain may long runs of;
-    }
+    serves config (submitted_of history) before.content now.content (kept_of detail (ended_report_of config detail history))
+    (ended_reports_run config detail history before now h.plain may long runs of) (ended_answered config detail history before now h.plain may long runs of)
+    (ended_unbroken config detail history before now h.plain may long runs of) (ended_states config detail history before now h.plain may long runs of)
 
 -- the honest part of a report with its last line: all of it, or the report of what happened before
 abbrev OfPart : (config : Options) (detail : Detail) (history : List Happening) → (List Line → Type 0) → Type 0
