@@ -9,7 +9,8 @@ use Rattle.std.proofs.lemmas.List.Folds.{position_or_len_push}
 use Rattle.blk_base.specs.declared.ask.BackAnswer.{BackAnswer}
 use Rattle.back_jobs.specs.declared.stage.JobStage.{JobStage}
 use Rattle.back_jobs.specs.declared.stage.JobStage.TheVariants as stage
-use Rattle.back_jobs.specs.Work.{Work, ask_of, ask_at, IsAnswer}
+use Rattle.back_jobs.specs.Work.{Work, ask_at, IsAnswer}
+use Rattle.back_jobs.specs.Keeping.{ask_in, ask_with}
 use Rattle.back_jobs.specs.Jobs.{work_at, is_done, is_done_at}
 use Rattle.back_jobs.specs.Sound.{done_place}
 use Rattle.back_jobs.specs.Order.{done_with}
@@ -55,15 +56,20 @@ undone_at : (s : JobStage) (t : Work) (a : BackAnswer) → IsAnswer (ask_at s t)
 undone_at (stage.Done status) t a h = absurd h
 undone_at s t a h = refl
 
--- a job that is told an answer isn't done
-pub undone : (t : Work) (a : BackAnswer) → IsAnswer (ask_of t) a → is_done t ≡ false
-undone t a h = undone_at t.stage t a h
+undone_with : (keeps : Bool) (s : JobStage) (t : Work) (a : BackAnswer) → IsAnswer (ask_with keeps s t) a → is_done_at s ≡ false
+undone_with false s t a h = undone_at s t a h
+undone_with true (stage.Done status) t a h = absurd h
+undone_with true s t a h = refl
 
-pub told_done : (works : List Work) (i : ℕ) (t y : Work) (a : BackAnswer) (done now : ℕ) (b : Bool) → slice_get works i ≡ Some t → IsAnswer (ask_of t) a → done ≡ done_place works → b ≡ is_done y → now ≡ done_after done i b → now ≡ done_place (slice_set works i y)
-told_done works i t y a done now b here allowed same test told =
+-- a job that is told an answer isn't done
+pub undone : (keeps : Bool) (t : Work) (a : BackAnswer) → IsAnswer (ask_in keeps t) a → is_done t ≡ false
+undone keeps t a h = undone_with keeps t.stage t a h
+
+pub told_done : (works : List Work) (i : ℕ) (t y : Work) (done now : ℕ) (b : Bool) → slice_get works i ≡ Some t → is_done t ≡ false → done ≡ done_place works → b ≡ is_done y → now ≡ done_after done i b → now ≡ done_place (slice_set works i y)
+told_done works i t y done now b here goes same test told =
     let within = slice_get_within works i t here in
     let at = get_or_from_slice_get works i t t here in
-    let before : is_done (slice_index_or works i t) ≡ false = rw at (undone t a allowed) in
+    let before : is_done (slice_index_or works i t) ≡ false = rw at goes in
     let told_so = one_told works i y t within before in
     cc
 

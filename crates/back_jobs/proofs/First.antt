@@ -6,12 +6,11 @@ use Rattle.std.proofs.lemmas.Bool.{false≢true}
 use Rattle.std.proofs.lemmas.Bool.Decides.{nat_tests}
 use Rattle.std.proofs.lemmas.List.Folds.{position_or_len_push}
 use Rattle.std.proofs.lemmas.Option.{slice_get_within, get_or_from_slice_get}
-use Rattle.blk_base.specs.declared.ask.BackAnswer.{BackAnswer}
-use Rattle.back_jobs.specs.Work.{Work, step_of}
+use Rattle.back_jobs.specs.Work.{Work}
 use Rattle.back_jobs.specs.Jobs.{is_done, is_ordered, is_barrier, holds_barriers, holds_all}
 use Rattle.back_jobs.specs.Sound.{AreFirst, ordered_place, barrier_place}
 use Rattle.back_jobs.specs.Order.{done_with, without}
-use Rattle.back_jobs.proofs.Kept.{step_op}
+use Rattle.back_jobs.proofs.Kept.{Facts, facts_of}
 
 more_at : (b e : Bool) (n m : ℕ) → cond e (n + cond b 0 1) m ≡ (if e then (if b then n else n + 1) else m)
 more_at true true n m = grind (arith)
@@ -76,11 +75,11 @@ pub found_or_len : (p : Work → Bool) (works : List Work) → unwrap_or (positi
 found_or_len p works = or_len (nat_lt (position_or_len p works) (length works)) (position_or_len p works) (length works) (place_within p works) refl
 
 -- a job that was told an answer is as ordered as before
-told_ordered : (t u : Work) (a : BackAnswer) → u ≡ step_of t a → is_ordered u ≡ is_ordered t
-told_ordered t u a is = ap (λ (op : ℕ). op == 1 || op == 2 || op == 5) (ap (λ (w : Work). w.op) is ∙ step_op t a)
+told_ordered : (t u : Work) → facts_of u ≡ facts_of t → is_ordered u ≡ is_ordered t
+told_ordered t u is = ap (λ (f : Facts). f.1 == 1 || f.1 == 2 || f.1 == 5) is
 
-told_barrier : (t u : Work) (a : BackAnswer) → u ≡ step_of t a → is_barrier u ≡ is_barrier t
-told_barrier t u a is = ap (λ (op : ℕ). op == 2) (ap (λ (w : Work). w.op) is ∙ step_op t a)
+told_barrier : (t u : Work) → facts_of u ≡ facts_of t → is_barrier u ≡ is_barrier t
+told_barrier t u is = ap (λ (f : Facts). f.1 == 2) is
 
 over_here : (b c : Bool) (n : ℕ) → c ≡ false → cond (not b) (1 + n) 0 ≢ 0 → cond (not c) (1 + n) 0 ≡ cond (not b) (1 + n) 0
 over_here true c n is other = absurd (other refl)
@@ -124,15 +123,15 @@ ended_first works place t u ordered barrier now_ordered now_barrier first here o
     }
 
 -- a job that is told an answer, and isn't done yet
-pub told_first : (works : List Work) (place : ℕ) (t u : Work) (a : BackAnswer) (ordered barrier : ℕ) → AreFirst ordered barrier works → slice_get works place ≡ Some t → is_done t ≡ false → u ≡ step_of t a → is_done u ≡ false
+pub told_first : (works : List Work) (place : ℕ) (t u : Work) (ordered barrier : ℕ) → AreFirst ordered barrier works → slice_get works place ≡ Some t → is_done t ≡ false → facts_of u ≡ facts_of t → is_done u ≡ false
     → AreFirst ordered barrier (slice_set works place u)
-told_first works place t u a ordered barrier first here before is after =
+told_first works place t u ordered barrier first here before is after =
     let within = slice_get_within works place t here in
     let at = get_or_from_slice_get works place t t here in
     let done_same : is_done u ≡ is_done t = after ∙ sym before in
     record {
-      ordered_is = first.ordered_is ∙ sym (first_set holds_barriers works place u t within (rw at (both (told_ordered t u a is) done_same)));
-      barrier_is = first.barrier_is ∙ sym (first_set holds_all works place u t within (rw at (both (told_barrier t u a is) done_same)));
+      ordered_is = first.ordered_is ∙ sym (first_set holds_barriers works place u t within (rw at (both (told_ordered t u is) done_same)));
+      barrier_is = first.barrier_is ∙ sym (first_set holds_all works place u t within (rw at (both (told_barrier t u is) done_same)));
     }
   where
     both : {k l d e : Bool} → k ≡ l → d ≡ e → (k && not d) ≡ (l && not e)

@@ -8,6 +8,8 @@ use Rattle.std.proofs.lemmas.List.Concat.{flat_map-append}
 use Rattle.std.proofs.lemmas.List.Quantifiers.{position-Some}
 use Rattle.std.proofs.lemmas.List.Elements.{Contains-append_left, Contains-append_right}
 use Rattle.blk_base.specs.declared.parts.Mapping.{Mapping}
+use Rattle.blk_base.specs.declared.parts.Mode.{Mode}
+use Rattle.blk_base.specs.declared.parts.Mode.TheVariants.{ReadWrite}
 use Rattle.blk_base.specs.declared.operation.Status.TheVariants.{Error}
 use Rattle.blk_base.specs.declared.ask.BackAsk.{BackAsk}
 use Rattle.blk_base.specs.declared.ask.BackAsk.TheVariants as ask
@@ -22,8 +24,9 @@ use Rattle.segment_list.specs.declared.verdict.Verdict.TheVariants as verdict
 use Rattle.segment_list.specs.Verdict.{verdict_of}
 use Rattle.back_jobs.specs.declared.stage.JobStage.{JobStage}
 use Rattle.back_jobs.specs.declared.stage.JobStage.TheVariants as stage
-use Rattle.back_jobs.specs.Work.{Work, ask_of, ask_at, map_ask, page_ask, is_copied_out, passes, judged, page_done, paging, step_of, step_at, sector_stage, next_sector, next_segment, counted, first_of, rest_of, last_of, begun, served, moving, ended, frameless, IsAnswer}
+use Rattle.back_jobs.specs.Work.{Work, ask_of, ask_at, map_in, mode_of, page_ask, is_copied_out, passes, judged, page_done, paging, step_of, step_at, sector_stage, next_sector, next_segment, counted, first_of, rest_of, last_of, begun, served, moving, ended, frameless, IsAnswer}
 use Rattle.back_jobs.specs.Jobs.{HeldJobs, mapping_at, asked, work_at, told_at, removed_at, is_done, is_done_at, first_mapping, after_mapping, start_job, without_done}
+use Rattle.back_jobs.specs.Keeping.{ask_in, ask_with}
 use Rattle.back_jobs.specs.Hands.{hand_of, hands_in, Names, HasOneMore, HandsAfter}
 
 -- what is held beside these mappings stays
@@ -62,11 +65,11 @@ hand_sector : (writes : Bool) (m : Mapping) → hand_at (sector_stage writes m) 
 hand_sector true m = refl
 hand_sector false m = refl
 
-map_hands : (rest : List Segment) (t : Work) (given : BackAnswer) → IsAnswer (map_ask rest t.writes) given → HandsAfter (map_ask rest t.writes) given [] (hand_of (step_at stage.Map t given))
-map_hands [] t given h = absurd h
-map_hands (s ∷ rest) t (answer.Mapped m) h = rw (hand_sector t.writes m) (alone m)
-map_hands (s ∷ rest) t (answer.MapRefused status) h = refl
-map_hands (s ∷ rest) t given h = absurd h
+map_hands : (rest : List Segment) (mode : Mode) (t : Work) (given : BackAnswer) → IsAnswer (map_in rest mode) given → HandsAfter (map_in rest mode) given [] (hand_of (step_at stage.Map t given))
+map_hands [] mode t given h = absurd h
+map_hands (s ∷ rest) mode t (answer.Mapped m) h = rw (hand_sector t.writes m) (alone m)
+map_hands (s ∷ rest) mode t (answer.MapRefused status) h = refl
+map_hands (s ∷ rest) mode t given h = absurd h
 
 either_hand : (b : Bool) (x y : JobStage) (l : List Mapping) → hand_at x ≡ l → hand_at y ≡ l → hand_at (if b then x else y) ≡ l
 either_hand true x y l p q = p
@@ -103,7 +106,7 @@ hand_step_at stage.MapPage t given h = page_hands t.pages t given h
 hand_step_at (stage.PageReference m) t (answer.Word word) h = refl
 hand_step_at (stage.PageSectors m gref) t (answer.Word word) h = either_hand (is_copied_out t (t.rest ++ segment_of gref word ∷ [])) (stage.UnmapPage m) (stage.PageReference m) (m ∷ []) refl refl
 hand_step_at (stage.UnmapPage m) t answer.Done h = rw (hand_of_page t) (alone m)
-hand_step_at stage.Map t given h = map_hands t.rest t given h
+hand_step_at stage.Map t given h = map_hands t.rest (mode_of t.writes) t given h
 hand_step_at (stage.ReadWord m k) t (answer.Word word) h = either_hand (k == 127) (stage.DiskWrite m) (stage.ReadWord m (k + 1)) (m ∷ []) refl refl
 hand_step_at (stage.DiskWrite m) t answer.Done h = hand_next (counted t) m
 hand_step_at (stage.DiskWrite m) t answer.DiskFailed h = refl
@@ -121,6 +124,15 @@ hand_step_at s t given h = absurd h
 -- what the answer to a job's ask makes of its hand
 pub hand_step : (t : Work) (given : BackAnswer) → IsAnswer (ask_of t) given → HandsAfter (ask_of t) given (hand_of t) (hand_of (step_of t given))
 hand_step t given h = hand_step_at t.stage t given h
+
+hand_step_with : (keeps : Bool) (s : JobStage) (t : Work) (given : BackAnswer) → IsAnswer (ask_with keeps s t) given → HandsAfter (ask_with keeps s t) given (hand_at s) (hand_of (step_at s t given))
+hand_step_with false s t given h = hand_step_at s t given h
+hand_step_with true stage.Map t given h = map_hands t.rest ReadWrite t given h
+hand_step_with true s t given h = hand_step_at s t given h
+
+-- also where the mapping may be kept
+pub hand_step_in : (keeps : Bool) (t : Work) (given : BackAnswer) → IsAnswer (ask_in keeps t) given → HandsAfter (ask_in keeps t) given (hand_of t) (hand_of (step_of t given))
+hand_step_in keeps t given h = hand_step_with keeps t.stage t given h
 
 -- a job stands between others
 pub record IsAmong (works : List Work) (place : ℕ) (t : Work) : Type 0 where
@@ -196,7 +208,7 @@ served_hand number (Indirect op count device id sector pages) size =
     let request : RawRequest = Indirect op count device id sector pages in
     either_hand_of (nat_le count 960) (paging number request size (not (op == 0)) sector count pages) (ended number request size (stage.Done Error)) [] refl refl
 
-begun_hand : (number : ℕ) (request : RawRequest) (size : ℕ) (v : Verdict) → hand_of (begun number request size v) ≡ []
+pub begun_hand : (number : ℕ) (request : RawRequest) (size : ℕ) (v : Verdict) → hand_of (begun number request size v) ≡ []
 begun_hand number request size (verdict.Serve plan) = served_hand number request size
 begun_hand number request size (verdict.Error why) = refl
 begun_hand number request size verdict.Unsupported = refl

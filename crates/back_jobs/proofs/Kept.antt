@@ -1,6 +1,6 @@
 -- What an answer leaves a job.
-use Rattle.std.proofs.Common.{◌≡◌, ℕ, ◌+◌, Bool, true, false, if◌then◌else◌, List, [], ◌∷◌, drop, length, refl, ap}
-use Rattle.std.specs.Prelude.{◌==◌}
+use Rattle.std.proofs.Common.{◌≡◌, ℕ, ◌+◌, Bool, true, false, if◌then◌else◌, List, [], ◌∷◌, drop, length, refl, ap, ◌∙◌}
+use Rattle.std.specs.Prelude.{Option, Some, None, ◌==◌}
 use Rattle.blk_base.specs.declared.parts.Mapping.{Mapping}
 use Rattle.blk_base.specs.declared.operation.Status.TheVariants.{Error}
 use Rattle.blk_base.specs.declared.ask.BackAnswer.{BackAnswer}
@@ -8,13 +8,16 @@ use Rattle.blk_base.specs.declared.ask.BackAnswer.TheVariants as answer
 use Rattle.blk_layout.specs.declared.segment.Segment.{Segment}
 use Rattle.back_jobs.specs.declared.stage.JobStage.{JobStage}
 use Rattle.back_jobs.specs.declared.stage.JobStage.TheVariants as stage
+use Rattle.persist_grants.specs.KeptMappings.{KeptMappings, mapping_for}
+use Rattle.persist_grants.specs.PutBack.{handed_out, with_mapping}
+use Rattle.back_jobs.specs.Keeping.{begun_with, takes, returned, failed_with, settled_at, settled}
 use Rattle.back_jobs.specs.Work.{Work, passes, judged, page_done, step_of, step_at, sector_stage, next_sector, next_segment, counted, first_of, rest_of, last_of}
 
 -- its number, its operation, how many segments its entry names, and the disk's size
-abbrev Facts : Type 0
+abbrev pub Facts : Type 0
 Facts = ℕ × ℕ × ℕ × ℕ
 
-abbrev facts_of : Work → Facts
+abbrev pub facts_of : Work → Facts
 facts_of t = (t.number, t.op, t.named, t.size)
 
 either_kept : (b : Bool) (x y : Work) (facts : Facts) → facts_of x ≡ facts → facts_of y ≡ facts → facts_of (if b then x else y) ≡ facts
@@ -58,6 +61,37 @@ step_kept_at s t given = refl
 
 step_kept : (t : Work) (given : BackAnswer) → facts_of (step_of t given) ≡ facts_of t
 step_kept t given = step_kept_at t.stage t given
+
+-- nor do the mappings that are kept change any of these
+begun_kept : (m : Option Mapping) (t : Work) → facts_of (begun_with m t) ≡ facts_of t
+begun_kept None t = refl
+begun_kept (Some m) t = refl
+
+takes_kept : (kept : KeptMappings) (rest : List Segment) (t : Work) → facts_of (takes kept rest t).job ≡ facts_of t
+takes_kept kept [] t = refl
+takes_kept kept (s ∷ rest) t = begun_kept (mapping_for kept s.gref) t
+
+returned_kept : (out : Option Mapping) (kept : KeptMappings) (t : Work) → facts_of (returned out kept t).job ≡ facts_of t
+returned_kept (Some out) kept t = refl
+returned_kept None kept t = takes_kept kept (rest_of t.rest) (next_segment t (rest_of t.rest)) ∙ next_segment_kept t (rest_of t.rest)
+
+failed_kept : (out : Option Mapping) (t : Work) → facts_of (failed_with out t) ≡ facts_of t
+failed_kept (Some out) t = refl
+failed_kept None t = refl
+
+settled_kept : (s : JobStage) (kept : KeptMappings) (t : Work) → facts_of (settled_at s kept t).job ≡ facts_of t
+settled_kept stage.Map kept t = takes_kept kept t.rest t
+settled_kept (stage.Unmap m) kept t = returned_kept (handed_out kept m.gref m) (with_mapping kept m.gref m) t
+settled_kept (stage.Abort m) kept t = failed_kept (handed_out kept m.gref m) t
+settled_kept s kept t = refl
+
+-- what an answer leaves a job, once it settled
+pub told_facts : (kept : KeptMappings) (t : Work) (given : BackAnswer) → facts_of (settled kept (step_of t given)).job ≡ facts_of t
+told_facts kept t given = settled_kept (step_of t given).stage kept (step_of t given) ∙ step_kept t given
+
+-- a job that begins has those of its entry
+pub begun_facts : (kept : KeptMappings) (t : Work) → facts_of (settled kept t).job ≡ facts_of t
+begun_facts kept t = settled_kept t.stage kept t
 
 pub step_number : (t : Work) (given : BackAnswer) → (step_of t given).number ≡ t.number
 step_number t given = ap (λ (f : Facts). f.0) (step_kept t given)

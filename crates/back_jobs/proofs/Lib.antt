@@ -10,3 +10,5 @@ pub mod Finding
 pub mod Listed
 pub mod Telling
 pub mod Spare
+pub mod Settling
+pub mod Plain

@@ -1,11 +1,12 @@
 -- Every job knows the disk's size, and names only what it may.
 use Rattle.std.proofs.Common.{◌≡◌, ℕ, Bool, true, false, if◌then◌else◌, cond, List, [], ◌∷◌, ◌++◌, take, refl, sym, ap, ◌∙◌, suc, arith}
-use Rattle.std.specs.Prelude.{Option, Some, None, Contains, is_some, not, remove, ◌==◌, nat_le}
+use Rattle.std.specs.Prelude.{Some, Contains, is_some, not, remove, slice_get, slice_set, ◌==◌, nat_le}
 use Rattle.std.proofs.lemmas.Option.{get_or_from_slice_get, slice_get_within}
 use Rattle.std.proofs.lemmas.List.Elements.{All-tail, All-set, All-push, All-append, All-take, All-drop, All-get_or}
 use Rattle.blk_base.specs.declared.parts.Mapping.{Mapping}
+use Rattle.blk_base.specs.declared.parts.Mode.{Mode}
+use Rattle.blk_base.specs.declared.parts.Mode.TheVariants.{ReadWrite}
 use Rattle.blk_base.specs.declared.operation.Status.TheVariants.{Error}
-use Rattle.blk_base.specs.declared.ask.BackAnswer.{BackAnswer}
 use Rattle.blk_layout.specs.declared.segment.Segment.{Segment}
 use Rattle.blk_layout.specs.declared.request.RawRequest.{RawRequest}
 use Rattle.blk_layout.specs.declared.request.RawRequest.TheVariants.{Direct, Discard, Indirect}
@@ -13,12 +14,13 @@ use Rattle.segment_list.specs.declared.verdict.Verdict.{Verdict}
 use Rattle.segment_list.specs.declared.verdict.Verdict.TheVariants as verdict
 use Rattle.back_jobs.specs.declared.stage.JobStage.{JobStage}
 use Rattle.back_jobs.specs.declared.stage.JobStage.TheVariants as stage
-use Rattle.back_jobs.specs.Work.{Work, ask_at, map_ask, page_ask, paging, mode_of, step_of, begun, served, moving, ended, frameless}
-use Rattle.back_jobs.specs.Jobs.{mapping_at, work_at, told_at, after_mapping}
+use Rattle.back_jobs.specs.Work.{Work, ask_at, map_in, page_ask, paging, mode_of, begun, served, moving, ended, frameless}
+use Rattle.back_jobs.specs.Jobs.{mapping_at, after_mapping}
 use Rattle.back_jobs.specs.Sound.{AreSized, IsPlaced, StaysInPageAndDisk}
+use Rattle.back_jobs.specs.Keeping.{ask_with}
 use Rattle.back_jobs.specs.Hands.{Names}
 use Rattle.back_jobs.proofs.Hands.{hand_at}
-use Rattle.back_jobs.proofs.Kept.{step_size}
+use Rattle.back_jobs.proofs.Kept.{Facts, facts_of}
 
 -- the number and the disk's size that a job has
 abbrev Has : ℕ → ℕ → Work → Type 0
@@ -59,14 +61,12 @@ started_sized size true works t all this = All-push (Sized size) works t all thi
 started_sized size false works t all this = all
 
 -- told a job's answer, all know it still
-pub told_sized : (size : ℕ) (works : List Work) (place : Option ℕ) (found : Option Work) (given : BackAnswer) → work_at works place ≡ found → AreSized size works → AreSized size (told_at works place found given)
-told_sized size works None found given h all = all
-told_sized size works (Some place) None given h all = all
-told_sized size works (Some place) (Some t) given h all =
+pub told_sized : (size : ℕ) (works : List Work) (place : ℕ) (t u : Work) → slice_get works place ≡ Some t → facts_of u ≡ facts_of t → AreSized size works → AreSized size (slice_set works place u)
+told_sized size works place t u h is all =
     let within = slice_get_within works place t h in
     let same = get_or_from_slice_get works place t t h in
     let this = All-get_or (Sized size) works place t within all in
-    All-set (Sized size) works place (step_of t given) (step_size t given ∙ ap (λ (u : Work). u.size) (sym same) ∙ this) all
+    All-set (Sized size) works place u (ap (λ (f : Facts). f.3) is ∙ ap (λ (w : Work). w.size) (sym same) ∙ this) all
 
 -- so do those that are left when one is removed
 pub removed_sized : (size : ℕ) (works : List Work) (place : ℕ) → AreSized size works → AreSized size (remove works place)
@@ -86,27 +86,3 @@ after_sized size (t ∷ works) all =
 -- a single mapping
 pub only : (m : Mapping) → Contains (m ∷ []) m
 only m = (0, omega arith, refl)
-
-names_map : (size : ℕ) (rest : List Segment) (writes : Bool) → Names [] (map_ask rest writes)
-names_map size [] writes = tt
-names_map size (s ∷ rest) writes = tt
-
-names_page : (size : ℕ) (pages : List ℕ) → Names [] (page_ask pages)
-names_page size [] = tt
-names_page size (gref ∷ pages) = tt
-
-names_at : (size : ℕ) (s : JobStage) (t : Work) → IsPlaced s t → StaysInPageAndDisk size (ask_at s t) → Names (hand_at s) (ask_at s t)
-names_at size stage.MapPage t placed within = names_page size t.pages
-names_at size (stage.PageReference m) t placed within = (only m, within)
-names_at size (stage.PageSectors m gref) t placed within = (only m, within)
-names_at size (stage.UnmapPage m) t placed within = only m
-names_at size stage.Map t placed within = names_map size t.rest t.writes
-names_at size (stage.ReadWord m k) t placed within = (only m, within)
-names_at size (stage.DiskWrite m) t placed within = tt
-names_at size (stage.DiskRead m) t placed within = tt
-names_at size (stage.WriteWord m k) t placed within = (only m, placed.2 ∙ ap mode_of placed.3, within)
-names_at size (stage.Unmap m) t placed within = only m
-names_at size (stage.Abort m) t placed within = only m
-names_at size stage.Flush t placed within = tt
-names_at size (stage.Trim count) t placed within = tt
-names_at size (stage.Done status) t placed within = tt

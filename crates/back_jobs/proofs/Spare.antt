@@ -5,25 +5,24 @@ use Rattle.std.specs.List.{count_by}
 use Rattle.std.proofs.lemmas.Bool.Decides.{nat_tests}
 use Rattle.std.proofs.lemmas.Option.{slice_get_within, get_or_from_slice_get}
 use Rattle.std.proofs.lemmas.List.Sums.{sum_by_push, sum_by-set, sum_by-remove, count_by-le-length}
-use Rattle.blk_base.specs.declared.ask.BackAnswer.{BackAnswer}
-use Rattle.back_jobs.specs.Work.{Work, step_of}
+use Rattle.back_jobs.specs.Work.{Work}
 use Rattle.back_jobs.specs.Segments.{is_paged, AreShared}
-use Rattle.back_jobs.proofs.Kept.{step_named}
+use Rattle.back_jobs.proofs.Kept.{Facts, facts_of}
 
 -- an answer leaves a job the vector that it has
-step_paged : (t u : Work) (a : BackAnswer) → u ≡ step_of t a → is_paged u ≡ is_paged t
-step_paged t u a is = ap (λ n. nat_lt 0 n) (ap (λ (w : Work). w.named) is ∙ step_named t a)
+step_paged : (t u : Work) → facts_of u ≡ facts_of t → is_paged u ≡ is_paged t
+step_paged t u is = ap (λ (f : Facts). nat_lt 0 f.2) is
 
 abbrev vecs_of : Work → ℕ
 vecs_of t = cond (is_paged t) 1 0
 
 -- one is told an answer
-pub told_shared : (spare capacity jobs indirect : ℕ) (works : List Work) (place : ℕ) (t u : Work) (a : BackAnswer) → slice_get works place ≡ Some t → u ≡ step_of t a
+pub told_shared : (spare capacity jobs indirect : ℕ) (works : List Work) (place : ℕ) (t u : Work) → slice_get works place ≡ Some t → facts_of u ≡ facts_of t
     → AreShared spare capacity jobs indirect works → AreShared spare capacity jobs indirect (slice_set works place u)
-told_shared spare capacity jobs indirect works place t u a here is all =
+told_shared spare capacity jobs indirect works place t u here is all =
     let within = slice_get_within works place t here in
     let at = get_or_from_slice_get works place t t here in
-    let same : vecs_of u ≡ vecs_of (slice_index_or works place t) = ap (λ (b : Bool). cond b 1 0) (step_paged t u a is ∙ ap is_paged (sym at)) in
+    let same : vecs_of u ≡ vecs_of (slice_index_or works place t) = ap (λ (b : Bool). cond b 1 0) (step_paged t u is ∙ ap is_paged (sym at)) in
     let moved = sum_by-set vecs_of works place u t within in
     record { has_space = all.has_space; shared = omega (arith, moved, same, all.shared) }
 

@@ -1,5 +1,5 @@
 -- The mappings in the hands of a back and its jobs: what may be done through them, and what a move makes of them (`grant_table.h`).
-use Rattle.std.specs.Prelude.{◌≡◌, ◌<◌, List, ◌∷◌, ◌++◌, Contains, flat_map, option_to_list}
+use Rattle.std.specs.Prelude.{◌≡◌, ◌<◌, List, ◌∷◌, ◌++◌, Contains, IsPermutation, flat_map, option_to_list}
 use Rattle.blk_base.specs.declared.parts.Mapping.{Mapping}
 use Rattle.blk_base.specs.declared.parts.Mode.TheVariants.{ReadWrite}
 use Rattle.blk_base.specs.declared.ask.BackAsk.{BackAsk}
@@ -36,3 +36,9 @@ abbrev pub HandsAfter : BackAsk → BackAnswer → List Mapping → List Mapping
 HandsAfter (Map gref mode) (Mapped m) before after = HasOneMore m before after
 HandsAfter (Unmap m) Done before after = HasOneMore m after before
 HandsAfter ask answer before after = after ≡ before
+
+-- so, in any order, where jobs keep mappings
+abbrev pub HandsKeep : BackAsk → BackAnswer → List Mapping → List Mapping → Type 0
+HandsKeep (Map gref mode) (Mapped m) before after = IsPermutation (m ∷ before) after
+HandsKeep (Unmap m) Done before after = IsPermutation before (m ∷ after)
+HandsKeep ask answer before after = IsPermutation before after

@@ -16,15 +16,18 @@ use Rattle.segment_list.specs.Verdict.{verdict_of}
 use Rattle.back_jobs.specs.declared.stage.JobStage.{JobStage}
 use Rattle.back_jobs.specs.declared.stage.JobStage.TheVariants as stage
 use Rattle.back_jobs.specs.Work.{Work, ask_of, step_of, begun}
+use Rattle.persist_grants.specs.KeptMappings.{KeptMappings, none_kept}
 
--- the jobs held, the lowest number first; how many there is room for; and the disk as the back knows it
+-- the jobs held, the lowest number first; how many there is room for; the disk as the back knows it; and the mappings that are kept for later requests
 pub record HeldJobs : Type 0 where
   pub works : List Work
   pub room : ℕ
   pub info : DiskInfo
+  pub kept : KeptMappings
 
+-- none is held, and no mapping may be kept
 abbrev pub none_held : ℕ → DiskInfo → HeldJobs
-none_held room info = record { works = []; room = room; info = info }
+none_held room info = record { works = []; room = room; info = info; kept = none_kept 0 }
 
 -- where the job of a number stands
 abbrev pub place_of : List Work → ℕ → Option ℕ

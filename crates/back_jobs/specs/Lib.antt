@@ -5,3 +5,4 @@ pub mod Sound
 pub mod Jobs
 pub mod Order
 pub mod Hands
+pub mod Keeping

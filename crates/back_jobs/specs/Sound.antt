@@ -2,14 +2,14 @@
 use Rattle.std.specs.Prelude.{◌≡◌, ℕ, ◌+◌, ◌-◌, ◌<◌, ◌≤◌, Bool, true, false, List, [], ◌∷◌, length, map, All}
 use Rattle.std.specs.List.{AllByRecursion, filter, position_or_len}
 use Rattle.blk_base.specs.declared.parts.Mapping.{Mapping}
-use Rattle.blk_base.specs.declared.parts.Mode.TheVariants.{ReadOnly}
+use Rattle.blk_base.specs.declared.parts.Mode.TheVariants.{ReadOnly, ReadWrite}
 use Rattle.blk_base.specs.declared.ask.BackAsk.{BackAsk}
 use Rattle.blk_base.specs.declared.ask.BackAsk.TheVariants as ask
 use Rattle.blk_layout.specs.declared.segment.Segment.{Segment}
 use Rattle.segment_list.specs.Segments.{IsSound, sectors_of}
 use Rattle.back_jobs.specs.declared.stage.JobStage.{JobStage}
 use Rattle.back_jobs.specs.declared.stage.JobStage.TheVariants as stage
-use Rattle.back_jobs.specs.Work.{Work, mode_of}
+use Rattle.back_jobs.specs.Work.{Work}
 use Rattle.back_jobs.specs.Jobs.{is_done, holds_barriers, holds_all}
 
 -- the present segment has come as far as `within`; after `ahead` more sectors of it, those of the others lie on the disk
@@ -22,9 +22,9 @@ abbrev pub IsLeft : Work → List Segment → Type 0
 IsLeft t [] = ⊥
 IsLeft t (s ∷ rest) = (t.disk + sectors_of rest ≤ t.size) × AllByRecursion IsSound rest
 
--- a mapping in the hand of a job was made in the mode that its request needs
+-- a mapping in the hand of a job whose words go to the frame was made for writing
 abbrev pub IsInMode : Mapping → Work → Type 0
-IsInMode m t = m.mode ≡ mode_of t.writes
+IsInMode m t = t.writes ≡ false → m.mode ≡ ReadWrite
 
 -- segments are left to be copied, of as many as there is room for
 abbrev pub IsCopying : Work → Type 0

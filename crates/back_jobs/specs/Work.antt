@@ -40,9 +40,12 @@ abbrev pub mode_of : Bool → Mode
 mode_of true = ReadOnly
 mode_of false = ReadWrite
 
+abbrev pub map_in : List Segment → Mode → BackAsk
+map_in [] mode = ask.Wait
+map_in (s ∷ rest) mode = ask.Map s.gref mode
+
 abbrev pub map_ask : List Segment → Bool → BackAsk
-map_ask [] writes = ask.Wait
-map_ask (s ∷ rest) writes = ask.Map s.gref (mode_of writes)
+map_ask rest writes = map_in rest (mode_of writes)
 
 -- an indirect page is only read
 abbrev pub page_ask : List ℕ → BackAsk

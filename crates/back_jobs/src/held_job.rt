@@ -1,6 +1,8 @@
 // One job.
-ghost use Rattle.std.specs.Prelude.{◌≡◌, ◌≢◌, ◌<◌, ◌+◌, cond, length, is_some, vec_capacity};
-ghost use Rattle.back_jobs.specs.Work.{ask_of, map_ask, page_ask, page_word, step_of, IsAnswer, begun};
+ghost use Rattle.std.specs.Prelude.{◌≡◌, ◌≢◌, ◌<◌, ◌+◌, ◌++◌, Bool, true, cond, length, is_some, vec_capacity, IsPermutation};
+ghost use Rattle.back_jobs.specs.Work.{page_ask, page_word, step_of, IsAnswer, begun};
+ghost use Rattle.back_jobs.specs.Keeping.{ask_in, ask_with, is_fresh_in, settled, AreKeepable, IsWritableAt, MapsUnkept};
+ghost use Rattle.persist_grants.specs.KeptMappings.{may_keep, mappings_of};
 ghost use Rattle.back_jobs.specs.Segments.{is_paged};
 ghost use Rattle.back_jobs.specs.Order.{holds};
 ghost use Rattle.back_jobs.specs.Sound.{StaysInPageAndDisk};
@@ -8,8 +10,10 @@ ghost use Rattle.back_jobs.specs.Hands.{hand_of, Names};
 ghost use Rattle.back_jobs.specs.Jobs.{is_done, is_fresh_at, is_ordered, is_barrier, response_of, mapping_at, effect_at};
 ghost use Rattle.segment_list.specs.Verdict.{verdict_of};
 ghost use Rattle.blk_base.specs.declared.ask.BackAsk.TheVariants as ask;
+ghost use Rattle.back_jobs.specs.declared.stage.JobStage.TheVariants as stage;
 
 mod begun;
+mod keeping;
 mod steps;
 
 use crate::effect::Effect;
@@ -19,6 +23,7 @@ use arrayvec::ArrayVec;
 use begun::{ended, served};
 use blk_base::{BackAnswer, BackAsk, Lent, Mapping, Mode, SectorWords, Status};
 use blk_layout::RawRequest;
+use persist_grants::Kept;
 use segment_list::{DiskInfo, Verdict, check};
 use std::marker::Model;
 
@@ -62,8 +67,30 @@ impl Model for HeldJob {
 impl HeldJob {
     /// The job of a request that was fetched as the `number`-th, on a disk of this kind: by the
     /// verdict on it, it moves the request's sectors, flushes or trims the disk, or is done at once.
-    /// One that copies segments takes one of these vectors for them.
+    /// One that copies segments takes one of these vectors for them. It takes the mapping that is kept
+    /// of its first segment's reference.
     pub(crate) fn begin(
+        number: u64,
+        request: &RawRequest,
+        info: &DiskInfo,
+        spare: &mut Vec<SegmentVec>,
+        kept: &mut Kept,
+    ) -> HeldJob
+        requires has_spare { info.now.max_indirect ≢ 0 → 0 < length spare.old.items }
+        requires keepable { AreKeepable kept.old }
+        ensures value { result ≡ (settled kept.old (begun number request.now info.now.sectors (verdict_of request.now info.now))).job }
+        ensures kept { kept.new ≡ (settled kept.old (begun number request.now info.now.sectors (verdict_of request.now info.now))).kept }
+        ensures hands { IsPermutation (mappings_of kept.old) (hand_of result ++ mappings_of kept.new) }
+        ensures spare { length spare.new.items + cond (is_paged result) 1 0 ≡ length spare.old.items }
+        ensures capacity { vec_capacity spare.new ≡ vec_capacity spare.old }
+    {
+        let mut job = HeldJob::judged(number, request, info, spare);
+        job.settle(kept);
+        job
+    }
+
+    // By the verdict on its request.
+    fn judged(
         number: u64,
         request: &RawRequest,
         info: &DiskInfo,
@@ -129,15 +156,18 @@ impl HeldJob {
     }
 
     /// Whether it is at its beginning: before its first map, that of a page or of a segment, or before
-    /// its trim.
+    /// its trim; where grants are persistent (`keeps`) also with a kept mapping that it took for its
+    /// first segment and did nothing with yet.
     #[inline(always)]
-    pub fn is_fresh(&self) -> bool
-        ensures { result ≡ is_fresh_at self.now.stage self.now.moved }
+    pub fn is_fresh(&self, keeps: bool) -> bool
+        ensures { result ≡ is_fresh_in keeps self.now }
     {
         match self.stage {
             JobStage::MapPage => true,
             JobStage::Map => self.moved == 0,
             JobStage::Trim(_) => true,
+            JobStage::ReadWord(_, k) => keeps && k == 0 && self.moved == 0,
+            JobStage::DiskRead(_) => keeps && self.moved == 0,
             _ => false,
         }
     }
@@ -221,10 +251,11 @@ impl HeldJob {
         }
     }
 
-    /// What the job asks next.
+    /// What the job asks next. Where grants are persistent (`keeps`) it maps each frame of data for
+    /// writing too.
     #[inline(always)]
-    pub fn ask(&self) -> BackAsk<'_>
-        ensures value { result ≡ ask_of self.now }
+    pub fn ask(&self, keeps: bool) -> BackAsk<'_>
+        ensures value { result ≡ ask_in keeps self.now }
         ensures within { StaysInPageAndDisk self.now.size result }
         ensures names { Names (hand_of self.now) result }
     {
@@ -233,7 +264,7 @@ impl HeldJob {
             JobStage::PageReference(mapping) => self.read_page(mapping, 0),
             JobStage::PageSectors(mapping, _) => self.read_page(mapping, 1),
             JobStage::UnmapPage(mapping) => BackAsk::Unmap(mapping),
-            JobStage::Map => self.map(),
+            JobStage::Map => self.map(keeps),
             JobStage::ReadWord(mapping, k) => BackAsk::Read {
                 mapping,
                 word: self.within * 128 + k,
@@ -284,11 +315,11 @@ impl HeldJob {
 
     // Maps the frame of the present segment.
     #[inline(always)]
-    fn map(&self) -> BackAsk<'_>
-        ensures value { result ≡ map_ask self.now.rest self.now.writes }
+    fn map(&self, keeps: bool) -> BackAsk<'_>
+        ensures value { result ≡ ask_with keeps stage.Map self.now }
         ensures within { StaysInPageAndDisk self.now.size result }
     {
-        let mode = if self.writes {
+        let mode = if self.writes && !keeps {
             Mode::ReadOnly
         } else {
             Mode::ReadWrite
@@ -302,10 +333,26 @@ impl HeldJob {
         }
     }
 
-    /// Answers what the job asks.
+    /// Answers what the job asks. A job that comes to a segment takes the mapping that is kept of its
+    /// reference; one that is done with a segment, or whose disk call failed, puts the mapping back.
     #[inline(always)]
-    pub fn tell(&mut self, answer: &BackAnswer)
-        requires { IsAnswer (ask_of self.old) answer.now }
+    pub fn tell(&mut self, answer: &BackAnswer, kept: &mut Kept)
+        requires answer { IsAnswer (ask_in (may_keep kept.old) self.old) answer.now }
+        requires keepable { AreKeepable kept.old }
+        requires writable { may_keep kept.old ≡ true → IsWritableAt self.old.stage }
+        ensures job { self.new ≡ (settled kept.old (step_of self.old answer.now)).job }
+        ensures kept { kept.new ≡ (settled kept.old (step_of self.old answer.now)).kept }
+        ensures hands { IsPermutation (hand_of (step_of self.old answer.now) ++ mappings_of kept.old) (hand_of self.new ++ mappings_of kept.new) }
+        ensures unkept { MapsUnkept kept.new self.new }
+    {
+        self.advance(answer);
+        self.settle(kept);
+    }
+
+    // What an answer makes of the job by itself.
+    #[inline(always)]
+    fn advance(&mut self, answer: &BackAnswer)
+        requires { (keeps : Bool) × IsAnswer (ask_in keeps self.old) answer.now }
         ensures { self.new ≡ step_of self.old answer.now }
     {
         match (self.stage, answer) {

@@ -1,12 +1,14 @@
 // All jobs of the back.
-ghost use Rattle.std.specs.Prelude.{◌≡◌, ◌<◌, ◌≤◌, ◌+◌, ◌↔◌, Some, IfOk, IfSome, IsSome, IsTrue, length, take, slice_get, vec_capacity, option_and_then};
+ghost use Rattle.std.specs.Prelude.{◌≡◌, ◌<◌, ◌≤◌, ◌+◌, ◌++◌, ◌↔◌, Some, IfOk, IfSome, IsSome, IsTrue, IsPermutation, length, take, slice_get, vec_capacity, option_and_then, option_to_list};
 ghost use Rattle.std.specs.List.{count_by};
 ghost use Rattle.std.specs.Option.{option_map};
 ghost use Rattle.back_jobs.specs.Work.{IsAnswer, Work};
 ghost use Rattle.back_jobs.specs.Sound.{StaysInPageAndDisk};
-ghost use Rattle.back_jobs.specs.Hands.{hands_in, Names};
+ghost use Rattle.back_jobs.specs.Hands.{hands_in, Names, HandsKeep};
 ghost use Rattle.back_jobs.specs.Segments.{is_paged};
-ghost use Rattle.back_jobs.specs.Jobs.{none_held, place_of, work_of, waits_at, is_held, is_held_by, ask_job, complete_job, start_job, without_done, first_mapping, after_mapping, effect_of, done_of, response_of, next_after};
+ghost use Rattle.back_jobs.specs.Jobs.{none_held, place_of, work_of, is_held, is_held_by, without_done, first_mapping, after_mapping, effect_of, done_of, response_of, next_after};
+ghost use Rattle.back_jobs.specs.Keeping.{waits_in, ask_keeping, complete_keeping, start_keeping, first_given, after_given, all_hands, MapsUnkept};
+ghost use Rattle.persist_grants.specs.KeptMappings.{none_kept, may_keep, IsBounded};
 ghost use Rattle.ring_words.specs.Shape.{entries_of};
 
 mod finding;
@@ -24,19 +26,23 @@ use finding::{
 };
 use finished::{done_with, drop_first, first_done, lowest_done, note};
 use order::{first_holding, holding_after, without};
+use persist_grants::Kept;
 use ring_words::RingShape;
 use segment_list::DiskInfo;
 use spare::{give_back, reserve_spare, vecs_for};
 use std::alloc::Global;
 use std::marker::Model;
 
-/// The jobs of a back, in order of number: the `number`-th request that it fetched in this epoch.
-/// After `reserve` no call takes memory.
+/// The jobs of a back, in order of number: the `number`-th request that it fetched in this epoch; and
+/// the mappings that they keep for later requests. After `reserve` no call takes memory.
 #[derive(Drop)]
 pub struct Jobs {
     held: Vec<HeldJob>,
     room: u32,
     info: DiskInfo,
+    kept: Box<Kept>,
+    // Whether any mapping may be kept.
+    keeps: bool,
     // Whether the numbers ascend, as they do where each was above those that were held. Jobs are then
     // found without a walk.
     ascending: bool,
@@ -54,34 +60,48 @@ pub struct Jobs {
 }
 
 impl Model for Jobs {
-    ghost use Rattle.std.specs.Prelude.{length, vec_capacity};
+    ghost use Rattle.std.specs.Prelude.{◌≡◌, length, vec_capacity};
     ghost use Rattle.back_jobs.specs.Jobs.{HeldJobs};
     ghost use Rattle.back_jobs.specs.Segments.{AreShared};
     ghost use Rattle.back_jobs.specs.Sound.{IsKept, AreFirst};
+    ghost use Rattle.back_jobs.specs.Keeping.{IsKeeping};
+    ghost use Rattle.persist_grants.specs.KeptMappings.{may_keep};
 
     ghost Value = { HeldJobs };
 
-    ghost view = { λ j. record { works = j.held.items; room = j.room; info = j.info } };
+    ghost view = { λ j. record { works = j.held.items; room = j.room; info = j.info; kept = j.kept.value } };
 
     ghost invariant = { λ j. IsKept j.ascending j.finished.items j.done_place j.room (vec_capacity j.held) (vec_capacity j.finished) j.info.sectors j.held.items
         × AreFirst j.ordered j.barrier j.held.items
-        × AreShared (length j.spare.items) (vec_capacity j.spare) j.room j.info.max_indirect j.held.items };
+        × AreShared (length j.spare.items) (vec_capacity j.spare) j.room j.info.max_indirect j.held.items
+        × IsKeeping j.kept.value j.held.items
+        × (j.keeps ≡ may_keep j.kept.value) };
 }
 
 impl Jobs {
-    /// No job, and room for as many as a ring of this shape has entries, on a disk of this kind. It
-    /// fails only where there is not enough memory.
-    pub fn reserve(alloc: Global, shape: RingShape, info: DiskInfo) -> Result<Jobs, OutOfMemory>
-        ensures { IfOk result (λ jobs. jobs ≡ none_held (entries_of shape.order) info) }
+    /// No job, and room for as many as a ring of this shape has entries, on a disk of this kind, which
+    /// keep at most `cap` mappings, 0 to 1000; 0 where grants aren't persistent. It fails only where
+    /// there is not enough memory.
+    pub fn reserve(
+        alloc: Global,
+        shape: RingShape,
+        info: DiskInfo,
+        cap: u32,
+    ) -> Result<Jobs, OutOfMemory>
+        requires { cap ≤ 1000 }
+        ensures { IfOk result (λ jobs. jobs ≡ record (none_held (entries_of shape.order) info) { kept = none_kept cap }) }
     {
         let room = shape.entries();
         let spare = reserve_spare(alloc, vecs_for(info.max_indirect, room))?;
         let held = Vec::with_capacity(alloc, room as usize)?;
         let finished = Vec::with_capacity(alloc, room as usize)?;
+        let kept = Box::new(alloc, Kept::new(cap))?;
         Ok(Jobs {
             held,
             room,
             info,
+            kept,
+            keeps: cap != 0,
             ascending: true,
             finished,
             done_place: 0,
@@ -123,12 +143,14 @@ impl Jobs {
     }
 
     /// Begins a request that was fetched as the `number`-th: by the verdict on it its job moves its
-    /// sectors, or is done at once. `has_room()` holds.
+    /// sectors, or is done at once. A mapping that is kept of its first segment's reference is its job's
+    /// from here on. `has_room()` holds.
     pub fn start(&mut self, number: u64, request: &RawRequest)
         requires { length self.old.works < self.old.room }
-        ensures { self.new ≡ start_job self.old number request.now }
+        ensures started { self.new ≡ start_keeping self.old number request.now }
+        ensures hands { IsPermutation (all_hands self.old) (all_hands self.new) }
     {
-        let job = HeldJob::begin(number, request, &self.info, &mut self.spare);
+        let job = HeldJob::begin(number, request, &self.info, &mut self.spare, &mut self.kept);
         let is_done = job.is_done();
         let count = self.held.len();
         self.done_place = done_with(self.done_place, count, is_done);
@@ -144,16 +166,18 @@ impl Jobs {
     /// What the job of a number asks next; `Wait` also where none has it, and where it is at its
     /// beginning and held: a barrier by a write, a barrier or a discard that was fetched before it and
     /// isn't done, and each of these by such a barrier (`BLKIF_OP_WRITE_BARRIER`).
+    ///
+    /// Where mappings may be kept each frame of data is mapped for writing too.
     #[inline(always)]
     pub fn ask(&self, number: u64) -> BackAsk<'_>
-        ensures value { result ≡ ask_job self.now number }
+        ensures value { result ≡ ask_keeping self.now number }
         ensures within { StaysInPageAndDisk self.now.info.sectors result }
         ensures names { Names (hands_in self.now.works) result }
     {
         match self.place(number) {
             None => BackAsk::Wait,
             Some(place) if self.waits(place) => BackAsk::Wait,
-            Some(place) => self.held[place].ask(),
+            Some(place) => self.held[place].ask(self.keeps),
         }
     }
 
@@ -161,10 +185,10 @@ impl Jobs {
     #[inline(always)]
     fn waits(&self, place: usize) -> bool
         requires { place < length self.now.works }
-        ensures { result ≡ waits_at self.now.works (Some place) (slice_get self.now.works place) }
+        ensures { result ≡ waits_in (may_keep self.now.kept) self.now.works (Some place) (slice_get self.now.works place) }
     {
         let job = &self.held[place];
-        job.is_fresh() && self.is_held_by(place, job)
+        job.is_fresh(self.keeps) && self.is_held_by(place, job)
     }
 
     // Whether jobs before this place hold up this one, at its beginning.
@@ -179,16 +203,22 @@ impl Jobs {
 
     /// Answers what the job of a number asks, and gives what that does to its request;
     /// `None` also where none has that number.
+    ///
+    /// A job that comes to a segment takes the mapping that is kept of its reference, and maps the frame
+    /// only where none is. One that is done with a segment, or whose disk call failed, puts the mapping
+    /// back: it is kept, and what is handed out for it is unmapped next.
     #[inline(always)]
     pub fn tell(&mut self, number: u64, answer: &BackAnswer) -> Option<Effect>
-        requires { IsAnswer (ask_job self.old number) answer.now }
-        ensures completed { self.new ≡ complete_job self.old number answer.now }
+        requires { IsAnswer (ask_keeping self.old number) answer.now }
+        ensures completed { self.new ≡ complete_keeping self.old number answer.now }
         ensures effect { result ≡ effect_of (work_of self.old.works number) answer.now }
+        ensures hands { HandsKeep (ask_keeping self.old number) answer.now (all_hands self.old) (all_hands self.new) }
+        ensures unkept { IfSome (place_of self.old.works number) (λ place. IfSome (slice_get self.new.works place) (MapsUnkept self.new.kept)) }
     {
         let place = self.place(number)?;
         let job = &mut self.held[place];
         let effect = job.effect(answer);
-        job.tell(answer);
+        job.tell(answer, &mut self.kept);
         if job.is_done() {
             self.done_place = self.done_place.min(place);
             note(&mut self.finished, job.number(), self.ascending);
@@ -269,11 +299,13 @@ impl Jobs {
         self.held.len()
     }
 
-    /// Abandons the jobs up to the lowest that has a mapping in its hand, and gives that mapping;
-    /// `None` exactly where no job is left that has one. No job goes on after that.
+    /// Abandons the jobs up to the lowest that has a mapping in its hand, and gives that mapping; where
+    /// no job is left that has one, a mapping that is kept, the least recently used first. `None` exactly
+    /// where none is kept either. No job goes on after that.
     pub fn give_up(&mut self) -> Option<Mapping>
-        ensures mapping { result ≡ first_mapping self.old.works }
-        ensures rest { self.new ≡ record self.old { works = after_mapping self.old.works } }
+        ensures mapping { result ≡ first_given self.old }
+        ensures rest { self.new ≡ after_given self.old }
+        ensures hands { IsPermutation (all_hands self.old) (option_to_list result ++ all_hands self.new) }
         ensures no_more { length self.new.works ≤ length self.old.works }
     {
         let mapping = abort_first(&mut self.held, &mut self.spare);
@@ -284,6 +316,9 @@ impl Jobs {
         self.ordered = first_holding(held, false);
         self.barrier = first_holding(held, true);
         self.finished.clear();
+        if mapping.is_none() {
+            return self.kept.drain();
+        }
         mapping
     }
 }

@@ -1,6 +1,6 @@
 -- The mappings that a back keeps for later requests, as `feature-persistent` of `io/blkif.h` has it: a backend
 -- that keeps a bounded number of them lets go of the least recently used first.
-use Rattle.std.specs.Prelude.{ℕ, ◌-◌, ◌≤◌, nat_eq, List, [], length, take, slice_get, Option}
+use Rattle.std.specs.Prelude.{ℕ, ◌-◌, ◌≤◌, ◌==◌, not, Bool, nat_eq, List, [], length, take, slice_get, Option}
 use Rattle.std.specs.List.{IsDistinct}
 use Rattle.std.specs.Option.{option_map}
 use Rattle.std.specs.Map.{keys_of, values_of, lookup, remove_entry}
@@ -19,6 +19,10 @@ mappings_of kept = values_of kept.entries
 pub record IsBounded (kept : KeptMappings) : Type 0 where
   pub within : length kept.entries ≤ kept.cap
   pub distinct : IsDistinct nat_eq (keys_of kept.entries)
+
+-- grants are persistent where mappings may be kept
+abbrev pub may_keep : KeptMappings → Bool
+may_keep kept = not (kept.cap == 0)
 
 -- nothing is kept yet
 abbrev pub none_kept : ℕ → KeptMappings

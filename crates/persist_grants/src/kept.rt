@@ -44,7 +44,7 @@ impl Model for Kept {
 }
 
 impl Kept {
-    ghost use Rattle.persist_grants.specs.KeptMappings.{none_kept, mappings_of, IsBounded, mapping_for, without, least_recent, without_least_recent};
+    ghost use Rattle.persist_grants.specs.KeptMappings.{may_keep, none_kept, mappings_of, IsBounded, mapping_for, without, least_recent, without_least_recent};
     ghost use Rattle.persist_grants.specs.PutBack.{makes_room, handed_out, with_mapping, answer_of, out_of};
 
     /// Nothing is kept yet, and at most `cap` mappings will be. Where `cap` is 0, grants aren't persistent.
@@ -57,6 +57,13 @@ impl Kept {
             references: ArrayVec::new(),
             mappings: ArrayVec::new(),
         }
+    }
+
+    /// Whether any mapping may be kept: grants are persistent.
+    pub fn may_keep(&self) -> bool
+        ensures { result ≡ may_keep self.now }
+    {
+        self.cap != 0
     }
 
     /// Takes out the mapping that is kept for `gref`; `None` exactly where none is.

@@ -1,6 +1,12 @@
 use Rattle.std.proofs.Common.{◌≡◌, ◌<◌, ◌≤◌, ◌++◌, ◌∷◌, ℕ, List, [], true, false, Bool, refl, arith, rules, sym, ap, ◌∙◌, subst, length, vec_capacity}
 use Rattle.std.proofs.Math.ListN.{length-append}
+use Rattle.std.specs.Prelude.{IsPermutation}
 use Rattle.segment_list.specs.Verdict.{verdict_of}
+use Rattle.blk_base.specs.declared.parts.Mapping.{Mapping}
+use Rattle.persist_grants.specs.KeptMappings.{KeptMappings, may_keep, mappings_of}
+use Rattle.back_jobs.specs.Work.{Work, begun}
+use Rattle.back_jobs.specs.Hands.{hand_of, hands_in}
+use Rattle.back_jobs.specs.Keeping.{all_hands, IsKeeping}
 use Rattle.back_jobs.specs.Jobs.{HeldJobs, is_done}
 use Rattle.back_jobs.specs.Order.{is_above}
 use Rattle.back_jobs.specs.Segments.{AreShared}
@@ -10,20 +16,24 @@ use Rattle.back_jobs.proofs.First.{began_first}
 use Rattle.back_jobs.proofs.Listed.{noted, began_listed, kept_rise, listed_fits, noting, was_ascending}
 use Rattle.back_jobs.proofs.Numbers.{began_ascending}
 use Rattle.back_jobs.proofs.Spare.{began_shared, has_spare}
+use Rattle.back_jobs.proofs.Kept.{Facts, facts_of, begun_facts}
+use Rattle.back_jobs.proofs.Settling.{settled_may, begun_writable, begun_keeping, begun_nothing_lost}
 use Rattle.back_jobs.proofs.Sizes.{begun_number, begun_size, started_sized}
 use Rattle.back_jobs.proofs.jobs.Jobs.start.Goals.{After-push}
 use Rattle.back_jobs.proofs.jobs.Jobs.start.Goals as goal
 
 -- what is known of the jobs stays true, where the number is listed if its job is done
 kept : (c : After-push) (b : Bool) (now : List ℕ) (listed : ℕ) → b ≡ c.is_done-is_done.result → (c.goes_on_ascending-self-inside.result ≡ true → now ≡ noted b c.args.number c.self.inside.finished.items) → vec_capacity c.self.inside.finished ≤ listed → IsKept c.goes_on_ascending-self-inside.result now c.done_with-self-inside.result c.self.inside.room (vec_capacity c.push.new.self) listed c.self.inside.info.sectors c.push.new.self.items × AreFirst c.done_with-self-inside-2.result c.done_with-self-inside-3.result c.push.new.self.items
-    × AreShared (length c.begin-job.new.spare.items) (vec_capacity c.begin-job.new.spare) c.self.inside.room c.self.inside.info.max_indirect c.push.new.self.items
+    × AreShared (length c.begin-job.new.spare.items) (vec_capacity c.begin-job.new.spare) c.self.inside.room c.self.inside.info.max_indirect c.push.new.self.items × IsKeeping c.begin-job.new.kept c.push.new.self.items × (c.self.inside.keeps ≡ may_keep c.begin-job.new.kept)
 kept c b now listed test noted_now more =
     let works = c.self.inside.held.items in
     let size = c.self.inside.info.sectors in
     let v = verdict_of c.args.request.now c.self.inside.info in
     let t = c.begin-job.result in
-    let known : t.size ≡ size = rw c.begin-job.ensures.value (begun_size c.args.number c.args.request.now size v) in
-    let numbered : t.number ≡ c.args.number = rw c.begin-job.ensures.value (begun_number c.args.number c.args.request.now size v) in
+    let entry : Work = begun c.args.number c.args.request.now size v in
+    let facts : facts_of t ≡ facts_of entry = ap facts_of c.begin-job.ensures.value ∙ begun_facts c.deref_mut.result.now entry in
+    let known : t.size ≡ size = ap (λ (f : Facts). f.3) facts ∙ begun_size c.args.number c.args.request.now size v in
+    let numbered : t.number ≡ c.args.number = ap (λ (f : Facts). f.0) facts ∙ begun_number c.args.number c.args.request.now size v in
     let grown : c.push.new.self.items ≡ works ++ t ∷ [] = search rules in
     let below : length works < c.self.inside.room = subst (λ (h : HeldJobs). length h.works < h.room) (sym c.self.view_is) c.requires in
     let ordered = began_ascending c.self.inside.ascending c.goes_on_ascending-self-inside.result works c.as_slice.result.now t c.args.number c.self.invariant.0.in_order c.as_slice.ensures.value numbered c.goes_on_ascending-self-inside.ensures in
@@ -39,6 +49,8 @@ kept c b now listed test noted_now more =
       },
       rw grown (began_first works t c.self.inside.ordered c.self.inside.barrier c.done_with-self-inside-2.result c.done_with-self-inside-3.result c.len-count.result c.holds.result c.holds-2.result c.self.invariant.1 counted c.holds.ensures c.holds-2.ensures c.done_with-self-inside-2.ensures c.done_with-self-inside-3.ensures),
       rw grown (began_shared (length c.self.inside.spare.items) (length c.begin-job.new.spare.items) (vec_capacity c.self.inside.spare) (vec_capacity c.begin-job.new.spare) c.self.inside.room c.self.inside.info.max_indirect works t c.begin-job.ensures.spare c.begin-job.ensures.capacity c.self.invariant.2),
+      rw grown (begun_keeping c.deref_mut.result.now c.begin-job.new.kept works entry t (begun_writable c.args.number c.args.request.now size v) c.begin-job.ensures.value c.begin-job.ensures.kept (rw c.deref_mut.ensures.value c.self.invariant.3)),
+      c.self.invariant.4 ∙ (ap (λ (k : KeptMappings). may_keep k) (sym c.deref_mut.ensures.value) ∙ (sym (settled_may c.deref_mut.result.now entry) ∙ ap (λ (k : KeptMappings). may_keep k) (sym c.begin-job.ensures.kept))),
     )
 
 pub invariant_of-self : goal.invariant_of-self
@@ -60,7 +72,25 @@ note-requires-clause-has_room c = λ test.
     let same : length c.self.inside.finished.items ≡ length (done_numbers works) = ap length (c.self.invariant.0.is_listed was) in
     omega (arith, below, same, listed_fits works, c.self.invariant.0.has_list_room)
 
-pub begin-job-requires : goal.begin-job-requires
-begin-job-requires c = λ some.
+pub begin-job-requires-clause-has_spare : goal.begin-job-requires-clause-has_spare
+begin-job-requires-clause-has_spare c = λ some.
     let below : length c.self.inside.held.items < c.self.inside.room = subst (λ (h : HeldJobs). length h.works < h.room) (sym c.self.view_is) c.requires in
     has_spare (length c.self.inside.spare.items) (vec_capacity c.self.inside.spare) c.self.inside.room c.self.inside.info.max_indirect c.self.inside.held.items c.self.invariant.2 below some
+
+pub begin-job-requires-clause-keepable : goal.begin-job-requires-clause-keepable
+begin-job-requires-clause-keepable c = rw c.deref_mut.ensures.value (c.self.invariant.3.keepable)
+
+-- nothing is lost
+hands : (c : After-push) → IsPermutation (all_hands c.args.self.now) (hands_in c.push.new.self.items ++ mappings_of c.begin-job.new.kept)
+hands c =
+    let works = c.self.inside.held.items in
+    let grown : c.push.new.self.items ≡ works ++ c.begin-job.result ∷ [] = search rules in
+    let given : IsPermutation (mappings_of c.self.inside.kept.value) (hand_of c.begin-job.result ++ mappings_of c.begin-job.new.kept) =
+    subst (λ (k : KeptMappings). IsPermutation (mappings_of k) (hand_of c.begin-job.result ++ mappings_of c.begin-job.new.kept)) c.deref_mut.ensures.value c.begin-job.ensures.hands in
+    rw (← c.self.view_is, grown) (begun_nothing_lost works c.begin-job.result (mappings_of c.self.inside.kept.value) (mappings_of c.begin-job.new.kept) given)
+
+pub returns-then-is_done-clause-hands : goal.returns-then-is_done-clause-hands
+returns-then-is_done-clause-hands c = hands (goal.at.returns-then-is_done-clause-hands c).After-push
+
+pub returns-else-is_done-clause-hands : goal.returns-else-is_done-clause-hands
+returns-else-is_done-clause-hands c = hands (goal.at.returns-else-is_done-clause-hands c).After-push

@@ -8,6 +8,7 @@ use Rattle.back_jobs.proofs.First.{removed_first}
 use Rattle.back_jobs.proofs.Listed.{taken_listed}
 use Rattle.back_jobs.proofs.Numbers.{removed_ascending}
 use Rattle.back_jobs.proofs.Spare.{removed_shared, removed_space}
+use Rattle.back_jobs.proofs.Settling.{removed_keeping}
 use Rattle.back_jobs.proofs.Sizes.{removed_sized}
 use Rattle.back_jobs.proofs.jobs.Jobs.take_done.Goals as goal
 
@@ -29,6 +30,8 @@ invariant_of-self c =
       },
       rw h.items (removed_first works c.self.inside.done_place c.remove-job.result c.self.inside.ordered c.self.inside.barrier c.without-self-inside.result c.without-self-inside-2.result within over c.self.invariant.1 c.without-self-inside.ensures c.without-self-inside-2.ensures),
       rw h.items (removed_shared (length c.self.inside.spare.items) (length c.give_back.new.spare.items) (vec_capacity c.self.inside.spare) (vec_capacity c.give_back.new.spare) c.self.inside.room c.self.inside.info.max_indirect works c.self.inside.done_place c.remove-job.result within here c.give_back.ensures.spare c.give_back.ensures.capacity c.self.invariant.2),
+      rw h.items (removed_keeping c.self.inside.kept.value works c.self.inside.done_place c.self.invariant.3),
+      c.self.invariant.4,
     )
 
 pub returns-clause-taken : goal.returns-clause-taken
