@@ -1,3 +1,4 @@
 pub mod Powers
 pub mod Slots
 pub mod Hands
+pub mod Plain

@@ -6,6 +6,7 @@ use Rattle.blk_base.specs.declared.parts.Mode.TheVariants.{ReadWrite}
 use Rattle.ring_words.specs.Shape.{Shape, entries_of, entry_words_of}
 use Rattle.blk_back.specs.declared.stage.BackStage.{BackStage}
 use Rattle.blk_back.specs.declared.stage.BackStage.TheVariants as stage
+use Rattle.persist_grants.specs.KeptMappings.{none_kept}
 use Rattle.blk_back.specs.View.{View}
 
 -- a fetch has read as many words as it says, fewer than an entry has, and there is room for its job
@@ -51,3 +52,4 @@ pub record IsSound (v : View) : Type 0 where
   pub writable : AreWritable v.pages
   pub few_pages : length v.pages ≤ 16
   pub few : length v.jobs.works ≤ entries_of 4
+  pub plain : v.jobs.kept ≡ none_kept 0

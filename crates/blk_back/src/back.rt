@@ -95,7 +95,8 @@ impl Back {
     {
         let shape = RingShape::of(Abi::X64, 0);
         let largest = RingShape::of(Abi::X64, 4);
-        let jobs = Jobs::reserve(alloc, largest, info)?;
+        // No mapping is kept: this back offers no persistent grants yet.
+        let jobs = Jobs::reserve(alloc, largest, info, 0)?;
         Ok(Back {
             ring: RingInfo {
                 indices: BackRing::attach(shape, start),

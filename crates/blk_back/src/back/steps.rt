@@ -6,13 +6,16 @@ ghost use Rattle.blk_base.specs.declared.ask.BackAnswer.TheVariants.{Word, Done,
 ghost use Rattle.blk_back.specs.declared.stage.BackStage.TheVariants as stage;
 ghost use Rattle.blk_back.specs.Ask.{loop_ask, next_reply, IsAnswer};
 ghost use Rattle.blk_back.specs.Step.{step_at, attaches, loop_step, loop_word, looked, halts, halts_at, overrun, abort, unbound, bound, other_pages, fetched, fetch_step, replied};
+ghost use Rattle.persist_grants.specs.KeptMappings.{none_kept};
+ghost use Rattle.back_jobs.specs.Jobs.{start_job};
 
 use super::Back;
 use crate::stage::{BackStage, Reply};
 use crate::told::BackTold;
 use arrayvec::ArrayVec;
+use back_jobs::Jobs;
 use blk_base::{Abi, BackAnswer, Halt, Mapping};
-use blk_layout::read_request;
+use blk_layout::{RawRequest, read_request};
 use ring_words::{BackRing, RingShape, notify};
 
 impl Back {
@@ -236,7 +239,7 @@ impl Back {
         let request = read_request(self.abi, self.ring.entry.as_slice());
         self.fetched = self.fetched.wrapping_add(1);
         self.ring.indices.consume();
-        self.jobs.start(self.fetched, &request);
+        start(&mut self.jobs, self.fetched, &request);
         self.stage = BackStage::Loop;
     }
 
@@ -275,4 +278,14 @@ fn unbound(pages: &[Mapping]) -> BackStage
     } else {
         BackStage::UnmapUnbound
     }
+}
+
+// A request is begun, where no mapping is kept.
+#[tactic(auto, using(crate::proofs::Plain::started))]
+fn start(jobs: &mut Jobs, number: u64, request: &RawRequest)
+    requires has_room { length jobs.old.works < jobs.old.room }
+    requires plain { jobs.old.kept ≡ none_kept 0 }
+    ensures { jobs.new ≡ start_job jobs.old number request.now }
+{
+    jobs.start(number, request);
 }
