@@ -3,8 +3,8 @@ mod script;
 
 use crate::asks::{Answer, Ask};
 use back_jobs::Effect;
-use blk_base::{Mode, Status};
-use script::{FRAME, READ_ONLY, Step, plays, plays_on};
+use blk_base::{Mapping, Mode, Status};
+use script::{FRAME, READ_ONLY, Step, plays, plays_keeping_one, plays_on};
 
 // The frame of a job is mapped for reading alone.
 const MAP: Ask = Ask::Map(24, Mode::ReadOnly);
@@ -213,6 +213,66 @@ fn a_second_page_goes_on_where_the_first_ends(rt: HostRuntime) {
             Step::Copies(40, 512, 0),
             Step::Copies(41, 1, 0),
             Step::Asks(MAP),
+        ],
+    );
+}
+
+// The frame of reference 25, mapped for writing too.
+const OTHER: Mapping = Mapping {
+    number: 8,
+    gref: 25,
+    mode: Mode::ReadWrite,
+};
+
+#[test]
+fn a_kept_mapping_serves_the_next_request_and_goes_for_a_newer_one(rt: HostRuntime) {
+    plays_keeping_one(
+        &rt,
+        rt.alloc(),
+        &[
+            // a write maps its frame for writing too, and keeps the mapping
+            Step::StartsOn(1, 24),
+            Step::JobAsks(1, Ask::Map(24, Mode::ReadWrite)),
+            Step::ToldTo(1, Answer::Mapped(FRAME)),
+            Step::Moves(1, FRAME),
+            Step::Taken(Some((1, 5, 1, Status::Okay))),
+            // the next one uses it, and maps nothing
+            Step::StartsOn(2, 24),
+            Step::Moves(2, FRAME),
+            Step::Taken(Some((2, 5, 1, Status::Okay))),
+            // one of another frame maps that, and the former mapping goes
+            Step::StartsOn(3, 25),
+            Step::JobAsks(3, Ask::Map(25, Mode::ReadWrite)),
+            Step::ToldTo(3, Answer::Mapped(OTHER)),
+            Step::Moves(3, OTHER),
+            Step::JobAsks(3, Ask::Unmap(FRAME)),
+            Step::ToldTo(3, Answer::Done),
+            Step::Taken(Some((3, 5, 1, Status::Okay))),
+            Step::GivesUp(OTHER),
+            Step::GivesNothingUp,
+        ],
+    );
+}
+
+#[test]
+fn a_kept_mapping_is_put_back_when_the_disk_fails(rt: HostRuntime) {
+    plays_keeping_one(
+        &rt,
+        rt.alloc(),
+        &[
+            Step::Starts(1, 0, 0),
+            Step::Told(Answer::Mapped(FRAME)),
+            Step::Asks(Ask::DiskRead(0)),
+            Step::Tells(Answer::DiskFailed, Effect::Failed { id: 5, index: 0 }),
+            Step::Taken(Some((1, 5, 0, Status::Error))),
+            // a barrier takes it; a write after the barrier waits, and found none to take
+            Step::Starts(2, 2, 0),
+            Step::StartsOn(3, 24),
+            Step::JobAsks(3, Ask::Wait),
+            Step::Moves(2, FRAME),
+            Step::Taken(Some((2, 5, 2, Status::Okay))),
+            Step::JobAsks(3, Ask::Map(24, Mode::ReadWrite)),
+            Step::GivesUp(FRAME),
         ],
     );
 }

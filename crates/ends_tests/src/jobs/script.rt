@@ -1,5 +1,7 @@
 // Scripts: what jobs are told, step by step, and what they are to ask. A test is one call over a script;
 // the calls that play it promise nothing, and are proved once.
+ghost use Rattle.std.specs.Prelude.{◌≤◌};
+
 use crate::asks::{Answer, Ask, asked, given};
 use crate::expected::{holds, same};
 use back_jobs::{Effect, Jobs};
@@ -51,6 +53,15 @@ pub enum Step {
     NextAfter(u64, Option<u64>),
     /// No mapping is left to be unmapped.
     GivesNothingUp,
+    /// A write of two sectors of the frame of this reference begins, of this number.
+    StartsOn(u64, u32),
+    /// The job of a number asks this.
+    JobAsks(u64, Ask),
+    /// The job of a number reads the words of both sectors through this mapping, each word once, and
+    /// writes them to the disk.
+    Moves(u64, Mapping),
+    /// This mapping is given up.
+    GivesUp(Mapping),
 }
 
 /// The frame of a job, mapped for reading alone.
@@ -72,7 +83,10 @@ fn jobs_on(
     sectors: u64,
     offered: bool,
     max_indirect: u32,
-) -> Result<Jobs, OutOfMemory> {
+    cap: u32,
+) -> Result<Jobs, OutOfMemory>
+    requires { cap ≤ 1000 }
+{
     let info = DiskInfo {
         sectors,
         read_only: false,
@@ -81,14 +95,19 @@ fn jobs_on(
         discard: offered,
         max_indirect,
     };
-    Jobs::reserve(alloc, RingShape::of(Abi::X64, 0), info)
+    Jobs::reserve(alloc, RingShape::of(Abi::X64, 0), info, cap)
 }
 
 // A request of id 5 with sectors 2 and 3 of the frame of reference 24.
 fn request(op: u8, sector: u64) -> RawRequest {
+    request_on(op, sector, 24)
+}
+
+// The same of the frame of another reference.
+fn request_on(op: u8, sector: u64, gref: u32) -> RawRequest {
     let mut segments = [Segment::default(); 11];
     segments[0] = Segment {
-        gref: 24,
+        gref,
         first: 2,
         last: 3,
     };
@@ -207,6 +226,23 @@ fn reads_words(rt: &impl Abort, jobs: &mut Jobs, sector: u32) {
     }
 }
 
+// A job of a number reads the words of sectors 2 and 3 of its frame, and writes disk sectors 0 and 1.
+fn moves(rt: &impl Abort, jobs: &mut Jobs, number: u64, mapping: Mapping) {
+    for sector in 2..4u32 {
+        for k in 0..128u32 {
+            let word = sector.wrapping_mul(128).wrapping_add(k);
+            same(rt, ask(jobs, number), asked(Ask::Read(mapping, word)));
+            told(rt, jobs, number, Answer::Word(k));
+        }
+        let writes = match ask(jobs, number) {
+            BackAsk::DiskWrite(written, _) => Some(written),
+            _ => None,
+        };
+        same(rt, writes, Some(u64::from(sector.wrapping_sub(2))));
+        told(rt, jobs, number, Answer::Done);
+    }
+}
+
 fn disk_writes(rt: &impl Abort, jobs: &Jobs, sector: u64) {
     let writes = match ask(jobs, 1) {
         BackAsk::DiskWrite(written, _) => Some(written),
@@ -271,6 +307,10 @@ fn takes(rt: &impl Abort, jobs: &mut Jobs, step: &Step) {
         Step::Count(wanted) => same(rt, count(jobs), wanted),
         Step::NextAfter(number, wanted) => same(rt, next_after(jobs, number), wanted),
         Step::GivesNothingUp => same(rt, abort(jobs), None),
+        Step::StartsOn(number, gref) => start(rt, jobs, number, &request_on(1, 0, gref)),
+        Step::JobAsks(number, wanted) => same(rt, ask(jobs, number), asked(wanted)),
+        Step::Moves(number, mapping) => moves(rt, jobs, number, mapping),
+        Step::GivesUp(mapping) => same(rt, abort(jobs), Some(mapping)),
     }
 }
 
@@ -287,7 +327,15 @@ pub fn plays_on(
     (sectors, offered, max_indirect): (u64, bool, u32),
     steps: &[Step],
 ) {
-    let mut jobs = jobs_on(alloc, sectors, offered, max_indirect).expect(rt, "memory");
+    let mut jobs = jobs_on(alloc, sectors, offered, max_indirect, 0).expect(rt, "memory");
+    for step in steps {
+        takes(rt, &mut jobs, step);
+    }
+}
+
+/// The same on a disk of eight sectors, where at most one mapping is kept.
+pub fn plays_keeping_one(rt: &impl Abort, alloc: Global, steps: &[Step]) {
+    let mut jobs = jobs_on(alloc, 8, true, 0, 1).expect(rt, "memory");
     for step in steps {
         takes(rt, &mut jobs, step);
     }
