@@ -1,0 +1,11 @@
+pub mod Status
+pub mod View
+pub mod Inside
+pub mod Allowed
+pub mod Move
+pub mod Ask
+pub mod Answer
+pub mod Told
+pub mod Bytes
+pub mod Held
+pub mod Owned

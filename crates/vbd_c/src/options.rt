@@ -1,0 +1,36 @@
+// The options of a back, as the numbers that C writes.
+ghost use Rattle.std.specs.Prelude.{◌≡◌};
+ghost use Rattle.vbd_c.specs.Held.{options_of};
+
+use blk_base::{Abi, Config};
+
+/// The disk's number of 512-byte sectors, the most segments that an indirect request may have (0 to 960; 0 turns them
+/// off), the first ring index, and whether the disk is for reading alone. Layout and order come from the front's keys.
+#[repr(C)]
+#[derive(Clone, Copy)]
+pub struct BackOptions {
+    pub sectors: u64,
+    pub indirect: u32,
+    pub start: u32,
+    pub read_only: bool,
+}
+
+impl BackOptions {
+    /// The options; `None` exactly where an indirect request might have more than 960 segments.
+    pub fn config(&self) -> Option<Config>
+        ensures { result ≡ options_of self.now }
+    {
+        if self.indirect > 960 {
+            return None;
+        }
+        Some(Config {
+            abi: Abi::X64,
+            order: 0,
+            persistent: 0,
+            indirect: self.indirect,
+            start: self.start,
+            read_only: self.read_only,
+            sectors: self.sectors,
+        })
+    }
+}

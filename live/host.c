@@ -1,0 +1,177 @@
+/* The host: it gives both ends their memory, events, keys and image, and runs each in a process of its own. */
+#define _GNU_SOURCE
+#include "live.h"
+#include <errno.h>
+#include <fcntl.h>
+#include <poll.h>
+#include <pthread.h>
+#include <sched.h>
+#include <stdarg.h>
+#include <stdlib.h>
+#include <string.h>
+#include <sys/eventfd.h>
+#include <sys/mman.h>
+#include <sys/wait.h>
+#include <time.h>
+#include <unistd.h>
+
+struct options options = {20000, 32, 8, 1, 0, false, false, false, 0};
+struct outside outside;
+
+static const char usage[] =
+    "host: the proved back of a Xen block device on real shared memory, beside a plain front\n"
+    "\n"
+    "    host [--requests N] [--depth N] [--sectors N] [--start N] [--seed N] [--image FILE] [--delays] [--hostile] [--threads]\n"
+    "\n"
+    "    --requests N   so many requests are served (20000)\n"
+    "    --depth N      up to so many at once, 1 to 32 (32)\n"
+    "    --sectors N    of up to so many sectors, 1 to 88 (8)\n"
+    "    --start N      the ring's first index, 0 to 4294967295 (0)\n"
+    "    --seed N       what is asked for, and the delays (1)\n"
+    "    --image FILE   the disk, which is made anew; else a file that is gone at the end\n"
+    "    --delays       each word, key and call comes after a random delay\n"
+    "    --hostile      a third process overwrites words of grants, ring and data; the front gives up at what is wrong then\n"
+    "    --threads      threads in place of processes\n"
+    "\n"
+    "It ends with status 0 where every request was answered, the data and the image are as they should be, and the back holds\n"
+    "no mapping; with --hostile where the back touched nothing that it didn't hold and holds nothing; and else with 1.\n";
+
+void die(const char *format, ...) {
+    va_list rest;
+    va_start(rest, format);
+    fputs("host: ", stderr);
+    vfprintf(stderr, format, rest);
+    fputs("\n", stderr);
+    fflush(0);
+    _exit(1);
+}
+
+static _Thread_local uint64_t random_state;
+void seed_of_thread(uint64_t who) { random_state = (options.seed * 4 + who + 1) * 0x9e3779b97f4a7c15u; }
+uint64_t any(uint64_t below) {
+    random_state ^= random_state << 13, random_state ^= random_state >> 7, random_state ^= random_state << 17;
+    return (random_state >> 11) % below;
+}
+void delay(void) {
+    if (!options.delays) return;
+    uint64_t kind = any(4096);
+    struct timespec time = {0, (long)any(50000)};
+    if (kind == 0) nanosleep(&time, 0);
+    else if (kind % 256 == 1) sched_yield();
+    else if (kind % 16 == 2) for (volatile uint64_t i = any(128); i > 0; i--) {}
+}
+
+void wake(int descriptor) {
+    uint64_t one = 1;
+    if (write(descriptor, &one, sizeof one) != sizeof one) die("an event can't be sent");
+}
+bool woken(int descriptor) {
+    uint64_t count;
+    return read(descriptor, &count, sizeof count) == sizeof count;
+}
+
+static void *hostile_thread(void *none) {
+    (void)none;
+    seed_of_thread(ENDS);
+    map_memory();
+    struct pollfd until = {outside.stopped, POLLIN, 0};
+    uint64_t count = 0;
+    for (; poll(&until, 1, 0) == 0; count++) {
+        struct timespec time = {0, (long)any(200000)};
+        nanosleep(&time, 0);
+        overwrite_memory();
+        if (any(8) == 0) wake(outside.event[BACK]);
+    }
+    printf("hostile hand: %" PRIu64 " words overwritten\n", count);
+    return 0;
+}
+static void *back_thread(void *none) { return run_back() ? &outside : none; }
+static void *front_thread(void *none) { return run_front() ? &outside : none; }
+
+/* The back and the hostile hand in threads or processes, and the front beside them; how many failed. */
+static int run_threads(void) {
+    void *(*const runs[])(void *) = {back_thread, front_thread, hostile_thread};
+    pthread_t threads[3];
+    int failed = 0, count = options.hostile ? 3 : 2;
+    map_memory();
+    for (int i = 0; i < count; i++)
+        if (pthread_create(&threads[i], 0, runs[i], 0)) die("a thread can't be started");
+    for (int i = 0; i < count; i++) {
+        void *answer = 0;
+        pthread_join(threads[i], &answer);
+        failed += answer != 0;
+    }
+    return failed;
+}
+static int run_processes(void) {
+    void *(*const runs[])(void *) = {back_thread, front_thread, hostile_thread};
+    int failed = 0, count = options.hostile ? 3 : 2;
+    for (int i = 0; i < count; i++) {
+        pid_t child = fork();
+        if (child < 0) die("a process can't be started");
+        if (child == 0) exit(runs[i](0) ? 1 : 0);
+    }
+    for (int i = 0; i < count; i++) {
+        int status = 0;
+        wait(&status);
+        failed += !WIFEXITED(status) || WEXITSTATUS(status);
+    }
+    return failed;
+}
+
+static void open_outside(void) {
+    snprintf(outside.folder, sizeof outside.folder, "%s/vbd-host-XXXXXX", access("/dev/shm", W_OK) ? "/tmp" : "/dev/shm");
+    if (!mkdtemp(outside.folder)) die("there is no room for the keys");
+    outside.memory = memfd_create("guest", MFD_CLOEXEC);
+    if (outside.memory < 0 || ftruncate(outside.memory, sizeof(uint32_t) * FRAMES * FRAME_WORDS)) die("there is no memory to share");
+    for (int end = 0; end < ENDS; end++) {
+        outside.event[end] = eventfd(0, EFD_NONBLOCK | EFD_CLOEXEC);
+        outside.watch[end] = eventfd(0, EFD_NONBLOCK | EFD_CLOEXEC);
+    }
+    outside.stopped = eventfd(0, EFD_NONBLOCK | EFD_CLOEXEC);
+    outside.image = memfd_create("image", MFD_CLOEXEC);
+    if (options.image) outside.image = open(options.image, O_RDWR | O_CREAT | O_TRUNC | O_CLOEXEC, 0644);
+    uint64_t bytes = options.depth * options.sectors_each * SECTOR_BYTES;
+    if (outside.stopped < 0 || outside.image < 0 || ftruncate(outside.image, (off_t)bytes)) die("the image can't be made");
+    make_keys();
+}
+static void close_outside(void) {
+    char name[96];
+    snprintf(name, sizeof name, "%s/keys", outside.folder);
+    unlink(name);
+    rmdir(outside.folder);
+}
+
+static uint64_t number(const char *word, const char *text, uint64_t least, uint64_t most) {
+    char *end = 0;
+    errno = 0;
+    uint64_t value = text && *text >= '0' && *text <= '9' ? strtoull(text, &end, 10) : 0;
+    if (!end || *end || errno || value < least || value > most) {
+        fprintf(stderr, "host: %s wants a number from %" PRIu64 " to %" PRIu64 "\n", word, least, most);
+        exit(2);
+    }
+    return value;
+}
+
+int main(int count, char **words) {
+    for (int i = 1; i < count; i++) {
+        const char *word = words[i], *next = i + 1 < count ? words[i + 1] : 0;
+        if (!strcmp(word, "--help")) return fputs(usage, stdout), 0;
+        else if (!strcmp(word, "--delays")) options.delays = true;
+        else if (!strcmp(word, "--hostile")) options.hostile = true;
+        else if (!strcmp(word, "--threads")) options.threads = true;
+        else if (!strcmp(word, "--requests")) options.requests = number(word, next, 0, 1000000000), i++;
+        else if (!strcmp(word, "--depth")) options.depth = number(word, next, 1, 32), i++;
+        else if (!strcmp(word, "--sectors")) options.sectors_each = number(word, next, 1, 88), i++;
+        else if (!strcmp(word, "--start")) options.start = (uint32_t)number(word, next, 0, UINT32_MAX), i++;
+        else if (!strcmp(word, "--seed")) options.seed = number(word, next, 0, UINT32_MAX), i++;
+        else if (!strcmp(word, "--image") && next) options.image = next, i++;
+        else return fprintf(stderr, "host: %s is no word of it; host --help says which are\n", word), 2;
+    }
+    seed_of_thread(ENDS);
+    open_outside();
+    fflush(0);
+    int failed = options.threads ? run_threads() : run_processes();
+    close_outside();
+    return failed ? 1 : 0;
+}
