@@ -102,16 +102,26 @@ static bool move_all(void) {
     return moved;
 }
 
+/* The guest's domain was suspended: nothing of it stays but the disk, and the back begins anew. */
+static void suspend(void) {
+    if (vbd_back_suspend(&back, options.start, true) != VBD_DONE) die("the back can't be made anew");
+    forget_grants();
+    make_keys();
+    woken(outside.event[BACK]), woken(outside.watch[BACK]);
+    wake(outside.resumed);
+}
+
 /* Waits for an event or a watch; false where the front is gone for good. */
 static bool wait(void) {
     static const char path[] = FRONT_KEYS "/state";
     struct vbd_ask ask = {0};
-    struct pollfd until[] = {{outside.event[BACK], POLLIN, 0}, {outside.watch[BACK], POLLIN, 0}, {outside.stopped, POLLIN, 0}};
-    int ready = poll(until, 3, options.hostile ? 2000 : 20000);
+    struct pollfd until[] = {
+        {outside.stopped, POLLIN, 0}, {outside.event[BACK], POLLIN, 0}, {outside.watch[BACK], POLLIN, 0}, {outside.suspend, POLLIN, 0}};
+    int ready = poll(until, 4, options.hostile ? 2000 : 20000);
     if (ready == 0 && !options.hostile) die("the back waited for 20 seconds: an event is lost");
     if (woken(outside.watch[BACK])) take(vbd_back_watched(&back, (const uint8_t *)path, sizeof path - 1), &ask);
     else if (woken(outside.event[BACK])) answer(0, &ask, VBD_EVENT, 0, 0);
-    else return ready > 0 && !(until[2].revents & POLLIN);
+    else return ready > 0 && !(until[0].revents & POLLIN);
     return true;
 }
 
@@ -120,7 +130,8 @@ int run_back(void) {
     map_memory();
     struct vbd_options disk_of = {options.depth * options.sectors_each, 0, options.start, false};
     if (vbd_back_new(&back, &disk_of) != VBD_DONE) die("the back can't be made");
-    while (move_all() || wait()) {}
+    while (move_all() || wait())
+        if (woken(outside.suspend)) suspend();
     struct vbd_halt halt = {0};
     uint8_t name[33] = {0};
     vbd_back_halted(&back, &halt);

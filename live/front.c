@@ -16,7 +16,7 @@ enum { RING_FRAME = 2, DATA_FRAME = 3, RING_GREF = 8, DATA_GREF = 16, MOST_PAGES
 static struct { bool busy; uint32_t op, count, tag; uint64_t sector; } requests[SLOTS];
 static uint32_t *tags; /* of each sector, the tag of its last write; 0: zeros */
 static uint32_t produced, consumed;
-static uint64_t submitted, answered, sectors, words_seen, odd_answers;
+static uint64_t submitted, answered, sectors, words_seen, suspends, odd_answers;
 static bool gave_up;
 
 /* What an honest back never does. Beside a hostile hand the front gives up where the ring is wrong, and goes on where data are. */
@@ -110,7 +110,16 @@ static void put_request(uint32_t slot) {
     produced++;
 }
 
-/* Has requests served while some are left and free; RING_PUSH_REQUESTS_AND_CHECK_NOTIFY. */
+/* RING_PUSH_REQUESTS_AND_CHECK_NOTIFY. */
+static void push(uint32_t before) {
+    if (produced == before) return;
+    full_fence();
+    store_word(RING_FRAME, REQ_PROD, produced);
+    full_fence();
+    if (produced - load_word(RING_FRAME, REQ_EVENT) < produced - before) wake(outside.event[BACK]);
+}
+
+/* Has requests served while some are left and free. */
 static void submit(void) {
     uint32_t before = produced;
     for (uint32_t slot = 0; slot < options.depth && submitted < options.requests; slot++) {
@@ -125,11 +134,19 @@ static void submit(void) {
         put_request(slot);
         submitted++;
     }
-    if (produced == before) return;
-    full_fence();
-    store_word(RING_FRAME, REQ_PROD, produced);
-    full_fence();
-    if (produced - load_word(RING_FRAME, REQ_EVENT) < produced - before) wake(outside.event[BACK]);
+    push(before);
+}
+
+/* The domain is suspended and resumes: what lay between both ends is gone, and what isn't answered is asked for anew. */
+static void suspend(void) {
+    struct pollfd until = {outside.resumed, POLLIN, 0};
+    wake(outside.suspend);
+    if (poll(&until, 1, 20000) == 0) return wrong("the domain doesn't resume");
+    woken(outside.resumed), woken(outside.event[FRONT]), woken(outside.watch[FRONT]);
+    connect_to_back();
+    for (uint32_t slot = 0; slot < options.depth; slot++)
+        if (requests[slot].busy) put_request(slot);
+    push(options.start);
 }
 
 static void finish(uint32_t slot) {
@@ -178,6 +195,7 @@ int run_front(void) {
     connect_to_back();
     clock_gettime(CLOCK_MONOTONIC, &began);
     while (!gave_up && answered < options.requests) {
+        if (suspends < options.suspends && answered > suspends * options.requests / options.suspends) suspends++, suspend();
         if (take_responses()) continue;
         submit();
         struct pollfd until = {outside.event[FRONT], POLLIN, 0};
@@ -193,8 +211,8 @@ int run_front(void) {
     wake(outside.stopped);
     if (!options.hostile) compare_image();
     double seconds = (double)(ended.tv_sec - began.tv_sec) + (double)(ended.tv_nsec - began.tv_nsec) / 1e9;
-    printf("front: %" PRIu64 " requests, %" PRIu64 " answered, %" PRIu64 " sectors, %" PRIu64 " words compared, in %.2f seconds", submitted,
-           answered, sectors, words_seen, seconds);
+    printf("front: %" PRIu64 " requests, %" PRIu64 " answered, %" PRIu64 " sectors, %" PRIu64 " words compared, %" PRIu64 " suspends, "
+           "in %.2f seconds", submitted, answered, sectors, words_seen, suspends, seconds);
     if (options.hostile) printf("; %" PRIu64 " answers, words or grants were odd\n", odd_answers);
     else printf("; the image is as it should be\n");
     return 0;

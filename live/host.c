@@ -15,17 +15,19 @@
 #include <time.h>
 #include <unistd.h>
 
-struct options options = {20000, 32, 8, 1, 0, false, false, false, 0};
+struct options options = {20000, 32, 8, 0, 1, 0, false, false, false, 0};
 struct outside outside;
 
 static const char usage[] =
     "host: the proved back of a Xen block device on real shared memory, beside a plain front\n"
     "\n"
-    "    host [--requests N] [--depth N] [--sectors N] [--start N] [--seed N] [--image FILE] [--delays] [--hostile] [--threads]\n"
+    "    host [--requests N] [--depth N] [--sectors N] [--suspends N] [--start N] [--seed N] [--image FILE]\n"
+    "         [--delays] [--hostile] [--threads]\n"
     "\n"
     "    --requests N   so many requests are served (20000)\n"
     "    --depth N      up to so many at once, 1 to 32 (32)\n"
     "    --sectors N    of up to so many sectors, 1 to 88 (8)\n"
+    "    --suspends N   the guest's domain is suspended so many times meanwhile (0)\n"
     "    --start N      the ring's first index, 0 to 4294967295 (0)\n"
     "    --seed N       what is asked for, and the delays (1)\n"
     "    --image FILE   the disk, which is made anew; else a file that is gone at the end\n"
@@ -128,6 +130,8 @@ static void open_outside(void) {
         outside.event[end] = eventfd(0, EFD_NONBLOCK | EFD_CLOEXEC);
         outside.watch[end] = eventfd(0, EFD_NONBLOCK | EFD_CLOEXEC);
     }
+    outside.suspend = eventfd(0, EFD_NONBLOCK | EFD_CLOEXEC);
+    outside.resumed = eventfd(0, EFD_NONBLOCK | EFD_CLOEXEC);
     outside.stopped = eventfd(0, EFD_NONBLOCK | EFD_CLOEXEC);
     outside.image = memfd_create("image", MFD_CLOEXEC);
     if (options.image) outside.image = open(options.image, O_RDWR | O_CREAT | O_TRUNC | O_CLOEXEC, 0644);
@@ -163,6 +167,7 @@ int main(int count, char **words) {
         else if (!strcmp(word, "--requests")) options.requests = number(word, next, 0, 1000000000), i++;
         else if (!strcmp(word, "--depth")) options.depth = number(word, next, 1, 32), i++;
         else if (!strcmp(word, "--sectors")) options.sectors_each = number(word, next, 1, 88), i++;
+        else if (!strcmp(word, "--suspends")) options.suspends = number(word, next, 0, 1000000), i++;
         else if (!strcmp(word, "--start")) options.start = (uint32_t)number(word, next, 0, UINT32_MAX), i++;
         else if (!strcmp(word, "--seed")) options.seed = number(word, next, 0, UINT32_MAX), i++;
         else if (!strcmp(word, "--image") && next) options.image = next, i++;

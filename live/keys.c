@@ -59,6 +59,9 @@ uint64_t get_number(const char *folder, const char *name, uint64_t otherwise) {
 }
 
 void make_keys(void) {
-    set_key(FRONT_KEYS "/state", "1");
-    set_key(BACK_KEYS "/state", "1");
+    static const char states[] = FRONT_KEYS "/state=1\n" BACK_KEYS "/state=1\n";
+    char lines[ROOM];
+    int file = open_keys(LOCK_EX, lines);
+    if (pwrite(file, states, sizeof states - 1, 0) != sizeof states - 1 || ftruncate(file, sizeof states - 1)) die("the keys can't be made");
+    close(file);
 }

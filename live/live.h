@@ -21,7 +21,7 @@ enum { INITIALISING = 1, INIT_WAIT, INITIALISED, CONNECTED, CLOSING, CLOSED }; /
 #define BACK_KEYS "/local/domain/0/backend/vbd/1/51712"
 
 struct options {
-    uint64_t requests, depth, sectors_each, seed;
+    uint64_t requests, depth, sectors_each, suspends, seed;
     uint32_t start;
     bool delays, hostile, threads;
     const char *image;
@@ -30,7 +30,7 @@ extern struct options options;
 
 /* What both processes are given: descriptors, which each opens or maps for itself. */
 struct outside {
-    int memory, image, event[ENDS], watch[ENDS], stopped;
+    int memory, image, event[ENDS], watch[ENDS], suspend, resumed, stopped;
     char folder[64];
 };
 extern struct outside outside;
@@ -53,9 +53,11 @@ int32_t map_grant(uint32_t gref, bool writes, uint64_t *mapping);
 void unmap_grant(uint64_t mapping);
 uint32_t mapped_frame(uint64_t mapping, bool writes);
 uint64_t mappings_held(void);
+void forget_grants(void);
 void overwrite_memory(void);
 
-/* Keys (keys.c): a small file of lines `path=text`, under a lock. A key that is set wakes both ends' watches. */
+/* Keys (keys.c): a small file of lines `path=text`, under a lock. A key that is set wakes both ends' watches. At first, and
+ * after a suspend, there are both states alone. */
 void make_keys(void);
 bool get_key(const char *path, char text[TEXT_ROOM]);
 void set_key(const char *path, const char *text);

@@ -1,6 +1,7 @@
 /* The guest's memory: words, grants, and the mappings that the back holds. */
 #define _GNU_SOURCE
 #include "live.h"
+#include <string.h>
 #include <sys/mman.h>
 
 static _Atomic uint32_t (*frames)[FRAME_WORDS];
@@ -93,6 +94,15 @@ void unmap_grant(uint64_t mapping) {
     atomic_fetch_and(entry_of(gref), ~(uint64_t)clear);
 }
 uint64_t mappings_held(void) { return held; }
+
+/* A suspend: all mappings are gone, and with them the table of grants. */
+void forget_grants(void) {
+    memset(mappings, 0, sizeof mappings);
+    memset(mapped, 0, sizeof mapped);
+    memset(writers, 0, sizeof writers);
+    held = 0;
+    for (uint32_t gref = 0; gref < GREFS; gref++) atomic_store(entry_of(gref), 0);
+}
 
 /* A hostile hand: any word of the grant table, the ring and the first frames of data. */
 void overwrite_memory(void) {
