@@ -78,7 +78,7 @@ module _ {config : Options} {w : World} {g : Flow} {d : Pipeline} {p : ℕ} {t :
       end : StepsTo IsSame config w g (next d s.step) p then []
       end =
           subst (λ (works : List Work). Stepped None IsSame (next d s.step) [] (λ x. StationsWith config w g x works w.under.pages)) (set_again w.back.jobs.works p mid then)
-          (job_moves w then (Ends status) (sym number) refl refl
+          (job_moves w then (Ends status) (sym number) refl
           (λ q was reads. (tt, λ ok. back ok q was reads)) (λ q asked. record { before = (before q asked).0; after = refl; may = (before q asked).1; disk = λ a b same. same }) s.now are)
 
   -- the disk did it: the one place of the request is done, and the job ends well
@@ -99,7 +99,7 @@ module _ {config : Options} {w : World} {g : Flow} {d : Pipeline} {p : ℕ} {t :
       → ((q : PipelineRequest) → q.submission ≡ submitted_job r.transfer r.sector r.count → (a b : List (List ℕ)) → call a b → DiskDoes q.submission (Fails t.moved) a b)
       → GoesBy None call config (lines.Move shown ∷ lines.Fault t.id t.moved ∷ []) (with_job w p (record t { stage = job.Done Error }) w.under) d
   fails_so {call} shown bare unmoved works hands disk =
-      called mid Error shown refl hands (job_stepped w mid (Fails t.moved) refl refl (lines_of w g d p t r lines.Fault doing.is)
+      called mid Error shown refl hands (job_stepped w mid (Fails t.moved) refl (lines_of w g d p t r lines.Fault doing.is)
       (λ q was reads. (tt, λ t. absurd (false≢true t))) (λ q asked. record {
         before = sym works ∙ sym (ap (λ (s : JobStage). worked s t.moved) doing.stage);
         after = refl;
@@ -119,7 +119,7 @@ pub flush_goes : {config : Options} {w : World} {g : Flow} {d : Pipeline} {p : �
 flush_goes {config} {w} {g} {d} {t = t} doing number (Gave words) = stays (CallOf (ask_at job.Flush t) (Gave words)) config w g d (λ a b call. same_Some b a call.1) doing.holds
 flush_goes {w = w} {g = g} {d = d} {p = p} {t = t} {r = r} doing number Took =
     does_well doing (moves.DiskFlush number) (ap is_moving doing.at.0) refl (λ noted none. none) (hands_step w p t job.Flush answer.Done doing.is.place doing.stage tt)
-    (job_stepped w (record t { moved = 1; stage = job.Flush }) Flushes refl refl (lines_of w g d p t r (λ n i. lines.Flushed n) doing.is)
+    (job_stepped w (record t { moved = 1; stage = job.Flush }) Flushes refl (lines_of w g d p t r (λ n i. lines.Flushed n) doing.is)
     (λ q was reads. (read_now doing q was reads, λ t. absurd (false≢true t)))
     (λ q asked. record { before = rw (doing.stage, doing.at.1) refl; after = refl; may = rw (job_of r doing.at.0 q asked) refl; disk = λ a b call. same_Some b a call.1 }) doing.holds doing.is)
 flush_goes {w = w} {p = p} {t = t} {r = r} doing number DiskFailed =
@@ -131,7 +131,7 @@ pub trim_goes : {config : Options} {w : World} {g : Flow} {d : Pipeline} {p : �
 trim_goes {config} {w} {g} {d} {t = t} {count = count} doing number (Gave words) = stays (CallOf (ask_at (job.Trim count) t) (Gave words)) config w g d (λ a b call. absurd call) doing.holds
 trim_goes {w = w} {g = g} {d = d} {p = p} {t = t} {r = r} {count = count} doing number Took =
     does_well doing (moves.DiskTrim number t.disk count) (ap is_moving doing.at.0) refl (λ noted none. none) (hands_step w p t (job.Trim count) answer.Done doing.is.place doing.stage tt)
-    (job_stepped w (record t { moved = 1; stage = job.Trim count }) Trims refl refl (lines_of w g d p t r (λ n i. lines.Trimmed n) doing.is)
+    (job_stepped w (record t { moved = 1; stage = job.Trim count }) Trims refl (lines_of w g d p t r (λ n i. lines.Trimmed n) doing.is)
     (λ q was reads. (read_now doing q was reads, λ t. absurd (false≢true t)))
     (λ q asked.
     let so = job_of r doing.at.0 q asked in

@@ -1,7 +1,7 @@
 -- The steps of the pipeline that a job makes: its next sector is filled or read, or the disk fails at it, and the job ends.
-use Rattle.std.proofs.Common.{◌≡◌, ℕ, ◌+◌, ◌-◌, ◌%◌, ◌^◌, ◌<◌, ◌≤◌, ◌==◌, ◌&&◌, ◌||◌, inl, inr, not, Bool, true, false, List, [], ◌∷◌, length, refl, ap, sym, ◌∙◌, subst, arith, None}
+use Rattle.std.proofs.Common.{◌≡◌, ℕ, ◌+◌, ◌-◌, ◌%◌, ◌^◌, ◌<◌, ◌≤◌, ◌==◌, ◌&&◌, ◌||◌, ◌⊎◌, inl, inr, not, Bool, true, false, List, [], ◌∷◌, length, refl, ap, sym, ◌∙◌, subst, arith, None}
 use Rattle.std.specs.Prelude.{AllPairs, Some, slice_get, slice_set, replicate}
-use Rattle.std.proofs.lemmas.Option.{same_Some, slice_get_within}
+use Rattle.std.proofs.lemmas.Option.{same_Some}
 use Rattle.std.proofs.lemmas.Bool.{false≢true, true≢false, cases_eq, cases_lt, cases_Bool}
 use Rattle.blk_base.specs.Options.{Options}
 use Rattle.blk_base.specs.declared.config.Submission.{Submission}
@@ -24,16 +24,15 @@ use Rattle.blk_base.specs.declared.parts.Mapping.{Mapping}
 use Rattle.split_model.specs.World.{World}
 use Rattle.pipeline_laws.specs.Station.{Station, Working, Failed, PipelineRequest}
 use Rattle.pipeline_laws.specs.Move.{Move, Fills, Reads, Fails, Ends, station_before, station_after, words_after, move_lines}
-use Rattle.pipeline_laws.specs.Ring.{ring_after}
 use Rattle.pipeline_laws.specs.Pipeline.{Pipeline, Moves}
-use Rattle.pipeline_laws.specs.Allowed.{May, IsClear, is_working, is_in_way}
+use Rattle.pipeline_laws.specs.Allowed.{May, IsClear, is_unfetched, has_places, is_in_way}
 use Rattle.pipeline_laws.specs.Disk.{DiskDoes}
 use Rattle.machine_pipeline.proofs.Flow.{Flow, worked, submitted_job}
 use Rattle.machine_pipeline.proofs.ReadBack.{IsReadBack, ReadAt, has_data_at}
 use Rattle.machine_pipeline.proofs.Holds.{Holds, IsWork, IsMoving}
 use Rattle.machine_pipeline.proofs.Segments.{moves_sectors}
-use Rattle.machine_pipeline.proofs.Series.{lower}
-use Rattle.machine_pipeline.proofs.Lists.{all_at, pair_at, get_within}
+use Rattle.machine_pipeline.proofs.Series.{before as index_before}
+use Rattle.machine_pipeline.proofs.Lists.{all_at, pair_at}
 use Rattle.machine_pipeline.proofs.Stations.{kind_of}
 use Rattle.machine_pipeline.proofs.StationsBack.{job_steps}
 use Rattle.machine_pipeline.proofs.Turns.{Stepped}
@@ -74,7 +73,7 @@ not_in_way : (t u : Work) (x : Submission) (y : PipelineRequest) → (orders t �
     → is_held t (holds_barriers u) (holds_all u) ≡ false
     → is_in_way (is_barrier x) y ≡ false
 not_in_way t u x y this that undone ordered none =
-    rw (sym this.1, sym that.0, sym that.1) (by_order (bars t) (orders u) (bars u) (is_working y.submission y.station)
+    rw (sym this.1, sym that.0, sym that.1) (by_order (bars t) (orders u) (bars u) (has_places y.submission y.station)
     (sym (same (bars t) (orders t) (orders u) (bars u) (is_done u) (this.0 ∙ ordered) undone) ∙ none))
   where
     same : (b o c e f : Bool) → o ≡ true → f ≡ false → ((b && (c && not f)) || (o && (e && not f))) ≡ ((b && (c && true)) || (true && (e && true)))
@@ -86,14 +85,14 @@ not_in_way t u x y this that undone ordered none =
     by_order false true true w none = absurd (true≢false none)
     by_order false true false w none = refl
 
--- a request at work: its job isn't done
-working_kind : (x : Submission) (s : Station) → is_working x s ≡ true → kind_of s ≡ 4
-working_kind x (Working moved) t = refl
-working_kind x s t = absurd (false≢true t)
+-- a request with places left isn't fetched, or is at work, and its job isn't done
+with_places : (x : Submission) (s : Station) → has_places x s ≡ true → (kind_of s ≡ 4) ⊎ (is_unfetched s ≡ true)
+with_places x (Working moved) t = inl refl
+with_places x s t = inr t
 
-working_undone : (x : Submission) (s : JobStage) (moved : ℕ) → is_working x (worked s moved) ≡ true → is_done_at s ≡ false
-working_undone x (job.Done status) moved t = absurd (false≢true t)
-working_undone x s moved t = refl
+places_undone : (x : Submission) (s : JobStage) (moved : ℕ) → has_places x (worked s moved) ≡ true → is_done_at s ≡ false
+places_undone x (job.Done status) moved t = absurd (false≢true t)
+places_undone x s moved t = refl
 
 -- a move of a job's request from one station to the next, with its call of the disk
 pub record IsJobMove (call : (before after : List (List ℕ)) → Type 0) (d : Pipeline) (k : ℕ) (q : PipelineRequest) (from to : Station) (move : Move) : Type 0 where
@@ -119,7 +118,7 @@ jobs_ordered config w g d p t r h is =
 
 module _ {call : (before after : List (List ℕ)) → Type 0} {config : Options} {g : Flow} {d : Pipeline} {t : Work} {r : Request} {said : List Line} (w : World) (t' : Work) (move : Move)
     (number : t'.id ≡ t.id)
-    (still : ring_after d.ring (t.id - 1) move ≡ d.ring) (shows : move_lines (t.id - 1) move ≡ said) (now : HasRead w d t t' r move)
+    (shows : move_lines (t.id - 1) move ≡ said) (now : HasRead w d t t' r move)
     (makes : (q : PipelineRequest) → q.submission ≡ submitted_job r.transfer r.sector r.count → IsJobMove call d (t.id - 1) q (worked t.stage t.moved) (worked t'.stage t'.moved) move) where
   -- the job at this place makes it
   pub job_moves : {works : List Work} {p : ℕ} → StationsWith config w g d works w.under.pages → AreOrdered g works p t r
@@ -133,7 +132,7 @@ module _ {call : (before after : List (List ℕ)) → Type 0} {config : Options}
         shows = shows;
         asks = refl;
         disk = it.disk;
-        now = job_steps p t t' x move are.here are.ascending are.positive number it.after still (λ y its. rw (same_Some y r (sym its ∙ are.known)) (now x.q x.at)) stations;
+        now = job_steps p t t' x move are.here are.ascending are.positive number it.after (λ y its. rw (same_Some y r (sym its ∙ are.known)) (now x.q x.at)) stations;
       }
 
   pub job_stepped : {p : ℕ} → Holds config w g d w.front.stage w.back.stage → IsAt w g d p t r → StepsTo call config w g d p t' said
@@ -149,33 +148,7 @@ stands_before works p i t u up here at lower = elim (cases_lt i p) [
   ]
 ]
 
--- no request that was fetched before this one is in its way
-clears : (config : Options) (w : World) (g : Flow) (d : Pipeline) (p : ℕ) (t : Work) (r : Request) (q : PipelineRequest)
-    → Holds config w g d w.front.stage w.back.stage
-    → IsAt w g d p t r
-    → q.submission ≡ submitted_job r.transfer r.sector r.count
-    → is_ordered q.submission ≡ true
-    → (j : ℕ) (y : PipelineRequest) → j < t.id - 1 → slice_get d.requests j ≡ Some y → is_in_way (is_barrier q.submission) y ≡ false
-clears config w g d p t r q h is asked ordered i y before here = elim (cases_Bool (is_working y.submission y.station)) [
-  | inl working ↦
-      let its = h.stations.held i y here (working_kind y.submission y.station working) in
-      let u : Work = its.1 in
-      let work = all_at (IsWork g.submitted g.series g.fetched) w.back.jobs.works its.0 u h.works.each its.2 in
-      let place : u.id - 1 ≡ i = omega (arith, its.3) in
-      let x = h.stations.works its.0 u its.2 in
-      let one : x.q ≡ y = same_Some x.q y (sym x.at ∙ (ap (slice_get d.requests) place ∙ here)) in
-      let known = h.stations.known.each i work.r y (ap (slice_get g.submitted) (sym place) ∙ work.known) here in
-      not_in_way t u q.submission y (same_order t.op q.submission r.transfer r.sector r.count is.op asked) (same_order u.op y.submission work.r.transfer work.r.sector work.r.count work.op known)
-      (working_undone y.submission u.stage u.moved (ap (is_working y.submission) (sym (ap (λ (z : PipelineRequest). z.station) (sym one) ∙ x.there)) ∙ working)) ordered
-      (is.free.clear its.0 u (stands_before w.back.jobs.works p its.0 t u h.works.ascending is.place its.2 (omega (arith, its.3, before))) its.2)
-  | inr none ↦ rw none (idle (is_ordered y.submission) (is_barrier q.submission || is_barrier y.submission))
-]
-  where
-    idle : (b c : Bool) → (b && c && false) ≡ false
-    idle true true = refl
-    idle true false = refl
-    idle false c = refl
-
+-- no request of a lower number is in its way: it was fetched before
 pub clear : (config : Options) (w : World) (g : Flow) (d : Pipeline) (p : ℕ) (t : Work) (r : Request) (q : PipelineRequest)
     → Holds config w g d w.front.stage w.back.stage
     → IsAt w g d p t r
@@ -183,18 +156,38 @@ pub clear : (config : Options) (w : World) (g : Flow) (d : Pipeline) (p : ℕ) (
     → is_ordered q.submission ≡ true
     → IsClear d (t.id - 1) q
 clear config w g d p t r q h is asked ordered = record {
-  index = t.number - 1;
-  entry = h.stations.ring.entries (t.number - 1) r (omega (arith, is.counted, is.reached, h.indices.fetched_pushed)) is.issued ∙ ap (λ (n : ℕ). Some (n - 1)) named;
-  clear = λ i j y before at here.
-      let within = slice_get_within g.series (t.number - 1) r is.issued in
-      let x = get_within g.series i (omega (arith, before)) in
-      let place : x.0.number - 1 ≡ j = same_Some _ j (sym (h.stations.ring.entries i x.0 (omega (arith, before, is.reached, h.indices.fetched_pushed)) x.1) ∙ at) in
-      let less = lower g.series i (t.number - 1) x.0 r h.queue.ordered.ascending x.1 is.issued before in
-      clears config w g d p t r q h is asked ordered j y (omega (arith, place, less, named, (h.queue.ordered.positive i x.0 x.1))) here;
+  clear = λ i y before here. elim (cases_Bool (has_places y.submission y.station)) [
+    | inl left ↦ elim (with_places y.submission y.station left) [
+      | inl kind ↦ at_work i y before here left kind
+      | inr unfetched ↦
+          let late = h.stations.unfetched i y here unfetched in
+          let earlier = index_before g.series late.index (t.number - 1) late.r r h.queue.ordered.ascending late.at is.issued (omega (arith, late.number, before, named)) in
+          absurd (omega (arith, late.late, earlier, is.reached))
+    ]
+    | inr none ↦ rw none (idle (is_ordered y.submission) (is_barrier q.submission || is_barrier y.submission))
+  ];
 }
   where
     named : r.number ≡ t.id
     named = let number = h.submitted.each (t.id - 1) r is.known in omega (arith, number.number, is.positive)
+
+    idle : (b c : Bool) → (b && c && false) ≡ false
+    idle true true = refl
+    idle true false = refl
+    idle false c = refl
+
+    at_work : (i : ℕ) (y : PipelineRequest) → i < t.id - 1 → slice_get d.requests i ≡ Some y → has_places y.submission y.station ≡ true → kind_of y.station ≡ 4 → is_in_way (is_barrier q.submission) y ≡ false
+    at_work i y before here left kind =
+        let its = h.stations.held i y here kind in
+        let u : Work = its.1 in
+        let work = all_at (IsWork g.submitted g.series g.fetched) w.back.jobs.works its.0 u h.works.each its.2 in
+        let place : u.id - 1 ≡ i = omega (arith, its.3) in
+        let x = h.stations.works its.0 u its.2 in
+        let one : x.q ≡ y = same_Some x.q y (sym x.at ∙ (ap (slice_get d.requests) place ∙ here)) in
+        let known = h.stations.known.each i work.r y (ap (slice_get g.submitted) (sym place) ∙ work.known) here in
+        not_in_way t u q.submission y (same_order t.op q.submission r.transfer r.sector r.count is.op asked) (same_order u.op y.submission work.r.transfer work.r.sector work.r.count work.op known)
+        (places_undone y.submission u.stage u.moved (ap (has_places y.submission) (sym (ap (λ (z : PipelineRequest). z.station) (sym one) ∙ x.there)) ∙ left)) ordered
+        (is.free.clear its.0 u (stands_before w.back.jobs.works p its.0 t u h.works.ascending is.place its.2 (omega (arith, its.3, before))) its.2)
 
 -- the lines of a move at its next sector
 pub lines_of : (w : World) (g : Flow) (d : Pipeline) (p : ℕ) (t : Work) (r : Request) (line : ℕ → ℕ → Line) → IsAt w g d p t r → line (t.id - 1 + 1) t.moved ∷ [] ≡ line t.id t.moved ∷ []
@@ -215,7 +208,7 @@ module _ {config : Options} {w : World} {g : Flow} {d : Pipeline} {p : ℕ} {t :
   -- the disk takes the sector; a write reads nothing
   pub fills : t'.id ≡ t.id → worked t'.stage t'.moved ≡ Working (t.moved + 1) → StepsTo (CallOf (ask_at (job.DiskWrite m) t) Took) config w g d p t' (lines.Effect t.id t.moved ∷ [])
   fills number next =
-      job_stepped w t' (Fills t.moved) number refl (lines_of w g d p t r lines.Effect doing.is) (λ q was reads. absurd (false≢true (sym reads ∙ doing.at.2))) (λ q asked.
+      job_stepped w t' (Fills t.moved) number (lines_of w g d p t r lines.Effect doing.is) (λ q was reads. absurd (false≢true (sym reads ∙ doing.at.2))) (λ q asked.
       let so = filled_job q asked in
       record {
         before = rw doing.stage refl;
@@ -228,7 +221,7 @@ module _ {config : Options} {w : World} {g : Flow} {d : Pipeline} {p : ℕ} {t :
   -- or fails at it
   pub fails : t'.id ≡ t.id → worked t'.stage t'.moved ≡ Failed → StepsTo (CallOf (ask_at (job.DiskWrite m) t) DiskFailed) config w g d p t' (lines.Fault t.id t.moved ∷ [])
   fails number next =
-      job_stepped w t' (Fails t.moved) number refl (lines_of w g d p t r lines.Fault doing.is) (λ q was reads. absurd (false≢true (sym reads ∙ doing.at.2))) (λ q asked.
+      job_stepped w t' (Fails t.moved) number (lines_of w g d p t r lines.Fault doing.is) (λ q was reads. absurd (false≢true (sym reads ∙ doing.at.2))) (λ q asked.
       let so = filled_job q asked in
       record {
         before = rw doing.stage refl;
@@ -248,7 +241,7 @@ module _ {config : Options} {w : World} {g : Flow} {d : Pipeline} {p : ℕ} {t :
   pub gives : (words : List ℕ) → length words ≡ 128
       → StepsTo (CallOf (ask_at (job.DiskRead m) t) (Gave words)) config w g d p (record (counted t) { words = words; stage = job.WriteWord m 0 }) (lines.EffectRead t.id t.moved words ∷ [])
   gives words sized =
-      job_stepped w then (Reads t.moved words) refl refl (lines_of w g d p t r (λ n i. lines.EffectRead n i words) doing.is) has (λ q asked. record {
+      job_stepped w then (Reads t.moved words) refl (lines_of w g d p t r (λ n i. lines.EffectRead n i words) doing.is) has (λ q asked. record {
         before = rw doing.stage refl;
         after = ap (λ (n : ℕ). Working n) (sym one_more);
         may = rw (read_so q asked) (refl, left.0);
@@ -280,7 +273,7 @@ module _ {config : Options} {w : World} {g : Flow} {d : Pipeline} {p : ℕ} {t :
   -- or fails at it
   pub fails_to_give : StepsTo (CallOf (ask_at (job.DiskRead m) t) DiskFailed) config w g d p (record t { stage = job.Abort m }) (lines.Fault t.id t.moved ∷ [])
   fails_to_give =
-      job_stepped w (record t { stage = job.Abort m }) (Fails t.moved) refl refl (lines_of w g d p t r lines.Fault doing.is) (λ q was reads. (tt, λ t. absurd (false≢true t))) (λ q asked. record {
+      job_stepped w (record t { stage = job.Abort m }) (Fails t.moved) refl (lines_of w g d p t r lines.Fault doing.is) (λ q was reads. (tt, λ t. absurd (false≢true t))) (λ q asked. record {
         before = rw doing.stage refl;
         after = refl;
         may = (rw (read_so q asked) left.0, clear config w g d p t r q doing.holds doing.is asked);
@@ -293,7 +286,7 @@ pub ends_well : {config : Options} {w : World} {g : Flow} {d : Pipeline} {p : �
     → t.moved ≡ r.count
     → StepsTo (CallOf (ask_at (job.Unmap m) t) o) config w g d p (record t { rest = rest; stage = job.Done Okay }) []
 ends_well {config} {w} {g} {d} {p} {t} {r} {m} o rest doing moves all =
-    job_stepped w (record t { rest = rest; stage = job.Done Okay }) (Ends Okay) refl refl refl
+    job_stepped w (record t { rest = rest; stage = job.Done Okay }) (Ends Okay) refl refl
     (λ q was reads. (tt, λ ok. subst (λ (n : ℕ). IsReadBack w.under.pages r n q.words) all (read_now doing q was reads)))
     (λ q asked. record {
       before = rw (asked, doing.stage, all) (ap (λ (n : ℕ). Working n) (all_places r.transfer r.sector r.count moves));
@@ -305,7 +298,7 @@ ends_well {config} {w} {g} {d} {p} {t} {r} {m} o rest doing moves all =
 pub ends_badly : {config : Options} {w : World} {g : Flow} {d : Pipeline} {p : ℕ} {t : Work} {r : Request} {m : Mapping} (o : Outcome) → IsDoing config w g d p t r (job.Abort m)
     → StepsTo (CallOf (ask_at (job.Abort m) t) o) config w g d p (record t { stage = job.Done Error }) []
 ends_badly {config} {w} {g} {d} {p} {t} {r} {m} o doing =
-    job_stepped w (record t { stage = job.Done Error }) (Ends Error) refl refl refl (λ q was reads. (tt, λ t. absurd (false≢true t)))
+    job_stepped w (record t { stage = job.Done Error }) (Ends Error) refl refl (λ q was reads. (tt, λ t. absurd (false≢true t)))
     (λ q asked. record {
       before = rw doing.stage refl;
       after = refl;

@@ -181,7 +181,7 @@ pub stations_kept : (config : Options) (g : Flow) (d : Pipeline) (connected issu
     → AreStations config g d connected issuing fetching ending telling replying requests works old
     → AreStations config g d connected issuing fetching ending telling replying requests works new
 stations_kept config g d connected issuing fetching ending telling replying requests works old new same h =
-    record { options = h.options; front = h.front; ring = h.ring; stand = h.stand; reads = reads_kept g.submitted d.requests works old new same h.works h.reads }
+    record { options = h.options; front = h.front; stand = h.stand; reads = reads_kept g.submitted d.requests works old new same h.works h.reads }
 
 -- memory changes in no frame of the pool
 pub stations_elsewhere : (config : Options) (g : Flow) (d : Pipeline) (connected issuing fetching : Bool) (ending : Option Ending) (telling : Option ℕ) (replying : Option Reply) (requests : List Request) (works : List Work) (old new : List ℕ) (sectors last : ℕ)

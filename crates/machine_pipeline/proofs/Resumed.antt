@@ -14,7 +14,7 @@ use Rattle.blk_front.specs.Request.{is_write}
 use Rattle.blk_front.specs.declared.stage.Ending.{Ending}
 use Rattle.pipeline_laws.specs.Station.{Station, Waiting, Taking, Telling, Finished, PipelineRequest, is_finished}
 use Rattle.pipeline_laws.specs.Pipeline.{Pipeline, Resumes, next, again, station_again}
-use Rattle.pipeline_laws.specs.Allowed.{is_unissued, AreFinished}
+use Rattle.pipeline_laws.specs.Allowed.{is_unissued, is_unfetched, AreFinished}
 use Rattle.machine_pipeline.specs.Step.{IsSame}
 use Rattle.machine_pipeline.proofs.Flow.{epoch_flow, uses, frames_of, submitted_job}
 use Rattle.machine_pipeline.proofs.Series.{IsSeries, numbered, IsLeft}
@@ -22,7 +22,7 @@ use Rattle.machine_pipeline.proofs.Holds.{ArePooled}
 use Rattle.machine_pipeline.proofs.ReadBack.{IsReadBack, has_data_at}
 use Rattle.machine_pipeline.proofs.Lists.{any_at}
 use Rattle.machine_pipeline.proofs.Turns.{Stepped}
-use Rattle.machine_pipeline.proofs.Stations.{StandsAt, AreKnown, AreStations, AreOpen, AreGoing, kind_of, finishing}
+use Rattle.machine_pipeline.proofs.Stations.{StandsAt, AreKnown, AreStations, AreOpen, AreGoing, AreUnfetched, unissued_unfetched, kind_of, finishing}
 use Rattle.std.proofs.lemmas.List.{length-map}
 use Rattle.std.proofs.lemmas.List.Edits.{length-remove}
 use Rattle.machine_pipeline.proofs.Removals.{removed_was, removed_has}
@@ -46,7 +46,7 @@ again_stands : (asked : List PipelineRequest) (k : ℕ) (p : PipelineRequest) (s
 again_stands asked k p s e there = record { q = again p; at = slice_get-map again asked k ∙ ap (option_map again) e; there = there }
 
 -- a request that is told, or finished, stays where it stands, and each other waits again
-goes_again : (s : Station) → ((station_again s ≡ s) × (is_unissued s ≡ false) × (7 ≤ kind_of s)) ⊎ ((station_again s ≡ Waiting) × (is_finished s ≡ false))
+goes_again : (s : Station) → ((station_again s ≡ s) × (is_unfetched s ≡ false) × (7 ≤ kind_of s)) ⊎ ((station_again s ≡ Waiting) × (is_finished s ≡ false))
 goes_again (Telling n) = inl (refl, refl, omega arith)
 goes_again (Finished status) = inl (refl, refl, omega arith)
 goes_again s = inr (refl, refl)
@@ -54,8 +54,8 @@ goes_again s = inr (refl, refl)
 station_finished : (s : Station) → is_finished (station_again s) ≡ is_finished s
 station_finished s = elim (goes_again s) [ inl stays ↦ ap is_finished stays.0 | inr waits ↦ ap is_finished waits.0 ∙ sym waits.1 ]
 
-unissued_again : (s : Station) → is_unissued (station_again s) ≡ true → station_again s ≡ Waiting
-unissued_again s t = elim (goes_again s) [ inl stays ↦ absurd (false≢true (sym stays.1 ∙ (sym (ap is_unissued stays.0) ∙ t))) | inr waits ↦ waits.0 ]
+unfetched_again : (s : Station) → is_unfetched (station_again s) ≡ true → station_again s ≡ Waiting
+unfetched_again s t = elim (goes_again s) [ inl stays ↦ absurd (false≢true (sym stays.1 ∙ (sym (ap is_unfetched stays.0) ∙ t))) | inr waits ↦ waits.0 ]
 
 data_again : (s : Station) → has_data_at (station_again s) ≡ true → has_data_at s ≡ true
 data_again s t = elim (goes_again s) [ inl stays ↦ sym (ap has_data_at stays.0) ∙ t | inr waits ↦ absurd (false≢true (sym (ap has_data_at waits.0) ∙ t)) ]
@@ -111,16 +111,14 @@ resumes config d shape start before submitted closing pages after ending telling
   now = record {
     options = h.options;
     front = rw (h.closing_is, h.unclosed) refl;
-    ring = grind (arith, none-some);
     stand = record {
       known = known_again submitted d.requests h.known;
       opened = record {
         unfinished = unfinished_again d.requests ∙ h.opened.unfinished;
         held = again_all (λ k q. is_finished q.station ≡ false → _) d.requests (λ k p at going. h.opened.held k p at (sym (station_finished p.station) ∙ going));
       };
-      issued = again_all (λ k q. is_unissued q.station ≡ true → IsLeft after 0 k) d.requests (λ k p at some.
-          let left = h.waits.all k p at (unissued_again p.station some) in
-          record { index = left.0; late = omega arith; r = left.1; at = left.2; number = left.3 });
+      issued = λ k q at some. left k q at (unissued_unfetched q.station some);
+      unfetched = left;
       waiting = record { issued = λ t. absurd cc; rest = λ i r le at other. waiting_again d.requests after h.waits i r at };
       pushed = grind (arith, true≢false);
       works = λ i t e. absurd cc;
@@ -142,6 +140,11 @@ resumes config d shape start before submitted closing pages after ending telling
     };
   };
 }
+  where
+    left : AreUnfetched after 0 (map again d.requests)
+    left = again_all (λ k q. is_unfetched q.station ≡ true → IsLeft after 0 k) d.requests (λ k p at some.
+        let waits = h.waits.all k p at (unfetched_again p.station some) in
+        record { index = waits.0; late = omega arith; r = waits.1; at = waits.2; number = waits.3 })
 
 -- those of a front that takes no response wait again
 again_waiting : (s : Station) → kind_of s ≤ 6 → station_again s ≡ Waiting

@@ -38,6 +38,15 @@ pub record IsLeft (series : List Request) (count k : ℕ) : Type 0 where
   pub at : slice_get series index ≡ Some r
   pub number : r.number ≡ k + 1
 
+-- of those that are left another one than the first comes after it
+pub left_more : (series : List Request) (count k j : ℕ) (r : Request) → slice_get series count ≡ Some r → r.number ≡ k + 1 → j ≢ k → IsLeft series count j → IsLeft series (count + 1) j
+left_more series count k j r next number apart left =
+    let other : left.index ≢ count = λ here. apart (omega (arith, left.number, number, ap (λ (z : Request). z.number) (same_Some left.r r (sym left.at ∙ (ap (slice_get series) here ∙ next))))) in
+    record { index = left.index; late = omega (arith, left.late, other); r = left.r; at = left.at; number = left.number }
+
+pub left_grown : (series : List Request) (x : Request) {count k : ℕ} → IsLeft series count k → IsLeft (series ++ x ∷ []) count k
+left_grown series x left = record { index = left.index; late = left.late; r = left.r; at = get_append series (x ∷ []) left.index left.r left.at; number = left.number }
+
 -- indices and numbers have one order
 pub lower : (series : List Request) (i j : ℕ) (r s : Request) → AllPairs (λ (a b : Request). a.number < b.number) series → slice_get series i ≡ Some r → slice_get series j ≡ Some s → i < j → r.number < s.number
 lower series i j r s up first second lt = pair_at (λ (a b : Request). a.number < b.number) series i j r s up lt first second

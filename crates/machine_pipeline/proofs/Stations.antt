@@ -13,9 +13,8 @@ use Rattle.back_jobs.specs.declared.stage.JobStage.TheVariants as job
 use Rattle.back_jobs.specs.Work.{Work}
 use Rattle.blk_back.specs.declared.stage.Reply.{Reply}
 use Rattle.pipeline_laws.specs.Station.{Station, Waiting, Issuing, Pushed, Fetching, Working, Failed, Ended, Replying, Replied, Taking, Telling, Finished, PipelineRequest, is_finished}
-use Rattle.pipeline_laws.specs.Ring.{Ring}
 use Rattle.pipeline_laws.specs.Pipeline.{Pipeline, Front}
-use Rattle.pipeline_laws.specs.Allowed.{is_unissued}
+use Rattle.pipeline_laws.specs.Allowed.{is_unissued, is_unfetched}
 use Rattle.machine_pipeline.proofs.Flow.{Flow, count_of, worked, submitted_job}
 use Rattle.machine_pipeline.proofs.Series.{IsLeft}
 use Rattle.machine_pipeline.proofs.ReadBack.{AreReadBack}
@@ -37,18 +36,6 @@ pub record AreOpen (asked : List PipelineRequest) (requests : List Request) (end
   pub unfinished : count_by (λ (q : PipelineRequest). not (is_finished q.station)) asked ≡ length requests + count_of ending
   pub held : (k : ℕ) (q : PipelineRequest) → slice_get asked k ≡ Some q → is_finished q.station ≡ false → (list_any (λ (r : Request). r.number == k + 1) requests ≡ true) ⊎ ((e : Ending) × (ending ≡ Some e) × (e.request.number ≡ k + 1))
 
--- its ring is what passed between the ends: each request in turn, and the responses as they came
-pub record HasPassed (sent got answered freed : ℕ) (series : List Request) (replies : List Reply) (ring : Ring) : Type 0 where
-  pub pushed : length ring.pushed ≡ sent
-  pub entries : (i : ℕ) (r : Request) → i < sent → slice_get series i ≡ Some r → slice_get ring.pushed i ≡ Some (r.number - 1)
-  pub fetched : ring.fetched ≡ got
-  pub replied : length ring.replied ≡ answered
-  pub responses : (i : ℕ) (rep : Reply) → slice_get replies i ≡ Some rep → slice_get ring.replied (freed + i) ≡ Some (rep.id - 1)
-  pub taken : ring.taken ≡ freed
-
-abbrev pub IsRing : Flow → Ring → Type 0
-IsRing g ring = HasPassed g.pushed g.fetched g.replied g.taken g.series g.replies ring
-
 -- of the series, what wasn't pushed waits at the front, but the request that is being issued
 pub record AreWaiting (series : List Request) (pushed : ℕ) (issuing : Bool) (asked : List PipelineRequest) : Type 0 where
   pub issued : issuing ≡ true → (r : Request) → slice_get series pushed ≡ Some r → StandsAt asked (r.number - 1) Issuing
@@ -62,6 +49,16 @@ pub record ArePushed (series : List Request) (fetched pushed : ℕ) (fetching : 
 -- what isn't issued is in the series, and wasn't pushed
 abbrev pub AreIssued : List Request → ℕ → List PipelineRequest → Type 0
 AreIssued series pushed asked = (k : ℕ) (q : PipelineRequest) → slice_get asked k ≡ Some q → is_unissued q.station ≡ true → IsLeft series pushed k
+
+-- what isn't issued isn't fetched
+pub unissued_unfetched : (s : Station) → is_unissued s ≡ true → is_unfetched s ≡ true
+unissued_unfetched Pushed t = refl
+unissued_unfetched Fetching t = refl
+unissued_unfetched s t = t
+
+-- what isn't fetched is in the series, and wasn't fetched: entries are copied in the order in which they are pushed
+abbrev pub AreUnfetched : List Request → ℕ → List PipelineRequest → Type 0
+AreUnfetched series fetched asked = (k : ℕ) (q : PipelineRequest) → slice_get asked k ≡ Some q → is_unfetched q.station ≡ true → IsLeft series fetched k
 
 -- a job's id is its request's number
 abbrev pub AreWorking : List Work → List PipelineRequest → Type 0
@@ -119,6 +116,7 @@ pub record AllStand (submitted series : List Request) (sent got : ℕ) (replies 
   pub known : AreKnown submitted asked
   pub opened : AreOpen asked requests ending
   pub issued : AreIssued series sent asked
+  pub unfetched : AreUnfetched series got asked
   pub waiting : AreWaiting series sent issuing asked
   pub pushed : ArePushed series got sent fetching asked
   pub works : AreWorking jobs asked
@@ -132,7 +130,6 @@ pub record AllStand (submitted series : List Request) (sent got : ℕ) (replies 
 pub record AreStations (config : Options) (g : Flow) (d : Pipeline) (connected issuing fetching : Bool) (ending : Option Ending) (telling : Option ℕ) (response : Option Reply) (requests : List Request) (jobs : List Work) (pages : List ℕ) : Type 0 where
   pub options : d.options ≡ config
   pub front : d.front ≡ open_front connected g.closing
-  pub ring : IsRing g d.ring
   pub stand : AllStand g.submitted g.series g.pushed g.fetched g.replies d.requests issuing fetching ending telling response requests jobs
   pub open stand use *
   pub reads : AreReadBack g.submitted d.requests jobs pages
@@ -142,6 +139,11 @@ pub worked_kind : (s : JobStage) (moved : ℕ) → kind_of (worked s moved) ≡ 
 worked_kind (job.Abort m) moved = refl
 worked_kind (job.Done status) moved = refl
 worked_kind s moved = refl
+
+pub worked_fetched : (s : JobStage) (moved : ℕ) → is_unfetched (worked s moved) ≡ false
+worked_fetched (job.Abort m) moved = refl
+worked_fetched (job.Done status) moved = refl
+worked_fetched s moved = refl
 
 -- requests at stations of two kinds are two
 pub apart : (asked : List PipelineRequest) (j k : ℕ) (a b : Station) → StandsAt asked j a → StandsAt asked k b → kind_of a ≢ kind_of b → j ≢ k
@@ -222,6 +224,14 @@ open_moved {asked = asked} {k = k} {from = from} {to = to} m before after h =
 pub issued_moved : {series : List Request} {sent : ℕ} {asked moved : List PipelineRequest} {k : ℕ} {from to : Station} → IsMoved asked moved k from to → is_unissued to ≡ false → AreIssued series sent asked → AreIssued series sent moved
 issued_moved m later h j q e left = let was = other_was (λ (s : Station). is_unissued s ≡ true) j m (λ t. true≢false (sym t ∙ later)) e left in h j q was.1 left
 
+pub unfetched_moved : {series : List Request} {got : ℕ} {asked moved : List PipelineRequest} {k : ℕ} {from to : Station} → IsMoved asked moved k from to → (is_unfetched to ≡ true → is_unfetched from ≡ true) → AreUnfetched series got asked → AreUnfetched series got moved
+unfetched_moved {asked = asked} {moved = moved} {k = k} m early h j q e left = elim (cases_eq j k) [
+  | inl same ↦
+      let one : m.now ≡ q = same_Some m.now q (sym m.here ∙ (ap (slice_get moved) (sym same) ∙ e)) in
+      h j m.was.q (ap (slice_get asked) same ∙ m.was.at) (ap is_unfetched m.was.there ∙ early (sym (ap is_unfetched m.there) ∙ (ap (λ (x : PipelineRequest). is_unfetched x.station) one ∙ left)))
+  | inr other ↦ h j q (sym (m.others j other) ∙ e) left
+]
+
 pub waiting_moved : {series : List Request} {sent : ℕ} {issuing : Bool} {asked moved : List PipelineRequest} {k : ℕ} {from to : Station} → IsMoved asked moved k from to → 2 ≤ kind_of from → AreWaiting series sent issuing asked → AreWaiting series sent issuing moved
 waiting_moved m later h = record {
   issued = λ t r at. kind_stays m (omega arith) (h.issued t r at);
@@ -278,7 +288,7 @@ worked_open s moved = early_open (worked s moved) (omega (arith, worked_kind s m
 pub saw_more : (config : Options) (g : Flow) (front_seen back_seen : ℕ) (d : Pipeline) (connected issuing fetching : Bool) (ending : Option Ending) (telling : Option ℕ) (replying : Option Reply) (requests : List Request) (works : List Work) (pages : List ℕ)
     → AreStations config g d connected issuing fetching ending telling replying requests works pages
     → AreStations config (record g { front_seen = front_seen; back_seen = back_seen }) d connected issuing fetching ending telling replying requests works pages
-saw_more config g front_seen back_seen d connected issuing fetching ending telling replying requests works pages h = record { options = h.options; front = h.front; ring = h.ring; stand = h.stand; reads = h.reads }
+saw_more config g front_seen back_seen d connected issuing fetching ending telling replying requests works pages h = record { options = h.options; front = h.front; stand = h.stand; reads = h.reads }
 
 -- the front at another stage that is as far
 pub turned : (config : Options) (g : Flow) (d : Pipeline) (connected connected' issuing issuing' fetching : Bool) (ending ending' : Option Ending) (telling telling' : Option ℕ) (replying : Option Reply) (requests : List Request) (works : List Work) (pages : List ℕ)

@@ -1,5 +1,5 @@
 -- The steps of the pipeline that the back and its jobs make: an entry is begun and fetched, a job moves its sectors and ends, its response is begun and pushed.
-use Rattle.std.proofs.Common.{◌≡◌, ◌≢◌, ℕ, ◌+◌, ◌-◌, ◌<◌, ◌≤◌, inl, inr, Bool, true, false, List, [], ◌∷◌, ◌++◌, length, refl, ap, sym, ◌∙◌, subst, arith, length-append}
+use Rattle.std.proofs.Common.{◌≡◌, ◌≢◌, ℕ, ◌+◌, ◌-◌, ◌<◌, ◌≤◌, inl, inr, Bool, true, false, List, [], ◌∷◌, ◌++◌, length, refl, ap, sym, ◌∙◌, subst, arith}
 use Rattle.std.specs.Prelude.{AllPairs, Option, Some, None, slice_get, slice_set}
 use Rattle.std.specs.List.{remove}
 use Rattle.std.proofs.lemmas.Option.{none-some, same_Some}
@@ -11,14 +11,13 @@ use Rattle.blk_front.specs.Request.{is_write}
 use Rattle.blk_front.specs.declared.stage.Ending.{Ending}
 use Rattle.back_jobs.specs.Work.{Work}
 use Rattle.blk_back.specs.declared.stage.Reply.{Reply}
-use Rattle.pipeline_laws.specs.Allowed.{is_unissued}
+use Rattle.pipeline_laws.specs.Allowed.{is_unissued, is_unfetched}
 use Rattle.pipeline_laws.specs.Station.{Waiting, Issuing, Station, Fetching, Working, Ended, PipelineRequest}
 use Rattle.pipeline_laws.specs.Move.{Move, BeginsFetch, Fetches, BeginsResponse, Replies, moved, station_after, words_after}
-use Rattle.pipeline_laws.specs.Ring.{Ring, ring_after}
 use Rattle.pipeline_laws.specs.Pipeline.{Pipeline}
 use Rattle.machine_pipeline.specs.Step.{IsSame}
 use Rattle.machine_pipeline.proofs.Flow.{Flow, worked}
-use Rattle.machine_pipeline.proofs.Series.{IsSeries, other_place}
+use Rattle.machine_pipeline.proofs.Series.{IsSeries, left_more, other_place}
 use Rattle.machine_pipeline.proofs.ReadBack.{AreReadBack, IsReadBack, ReadAt, has_data_at}
 use Rattle.machine_pipeline.proofs.ReadsKept.{reads_moved, reads_fetched, reads_step, reads_fewer}
 use Rattle.machine_pipeline.proofs.Lists.{pair_at, set_was, get_set_here, get_set_other, get_append, get_last}
@@ -26,7 +25,7 @@ use Rattle.machine_pipeline.proofs.Growing.{push_was}
 use Rattle.machine_pipeline.proofs.Removals.{removed_was, removed_has}
 use Rattle.machine_pipeline.proofs.Turns.{Stepped}
 use Rattle.machine_pipeline.proofs.StationsFront.{moves_on}
-use Rattle.machine_pipeline.proofs.Stations.{StandsAt, apart as stands_apart, AreStations, AllStand, ArePushed, HaveJobs, IsResponding, AreReplied, early_open, AreWorking, IsRing, IsMoved, is_moved, stands_now, other_was, other_stays, kind_of, worked_kind, known_moved, open_moved, issued_moved, waiting_moved, pushed_moved, works_moved, held_moved, going_moved, replying_moved, replied_moved, taking_moved}
+use Rattle.machine_pipeline.proofs.Stations.{StandsAt, apart as stands_apart, AreStations, AllStand, ArePushed, HaveJobs, IsResponding, AreReplied, early_open, AreWorking, AreUnfetched, IsMoved, is_moved, stands_now, other_was, other_stays, kind_of, worked_kind, worked_fetched, known_moved, open_moved, issued_moved, unfetched_moved, waiting_moved, pushed_moved, works_moved, held_moved, going_moved, replying_moved, replied_moved, taking_moved}
 
 -- where the back or one of its jobs moves a request on, nothing changes at the front
 stand_on : {submitted series : List Request} {sent got got' : ℕ} {replies replies' : List Reply} {asked moved : List PipelineRequest}
@@ -34,13 +33,14 @@ stand_on : {submitted series : List Request} {sent got got' : ℕ} {replies repl
     {replying replying' : Option Reply} {requests : List Request} {works works' : List Work} {k : ℕ} {from to : Station} (m : IsMoved asked moved k from to)
     → (2 ≤ kind_of from) × (kind_of from < 7) × (2 ≤ kind_of to) × (kind_of to < 7)
     → AllStand submitted series sent got replies asked issuing fetching ending telling replying requests works
-    → ArePushed series got' sent fetching' moved → AreWorking works' moved → HaveJobs works' moved → IsResponding replying' moved → AreReplied replies' moved
+    → AreUnfetched series got' moved → ArePushed series got' sent fetching' moved → AreWorking works' moved → HaveJobs works' moved → IsResponding replying' moved → AreReplied replies' moved
     → AllStand submitted series sent got' replies' moved issuing fetching' ending telling replying' requests works'
-stand_on {telling = telling} {requests = requests} {from = from} {to = to} m (from_low, from_high, to_low, to_high) h pushed works held replying replied =
+stand_on {telling = telling} {requests = requests} {from = from} {to = to} m (from_low, from_high, to_low, to_high) h unfetched pushed works held replying replied =
     assumption (
       known_moved m h.known,
       open_moved m (early_open from (omega arith)) (early_open to (omega arith)) h.opened,
       issued_moved m (late_issued to to_low) h.issued,
+      unfetched,
       waiting_moved m from_low h.waiting,
       going_moved requests m (λ le. omega arith) h.going,
       taking_moved telling m (omega arith) h.taking,
@@ -90,8 +90,8 @@ module _ {config : Options} {g : Flow} {d : Pipeline} {connected issuing : Bool}
       → Stepped None IsSame d [] (λ p. AreStations config g p connected issuing true ending telling replying requests works pages)
   begins_fetch {works = works} r series next more h =
       let x = h.pushed.rest g.fetched r (omega arith) more next (λ t. absurd (false≢true t)) in
-      moves_on x BeginsFetch h refl refl (ap (slice_get (let ring : Ring = d.ring in ring.pushed)) h.ring.fetched ∙ h.ring.entries g.fetched r more next) refl (λ a b e. e) refl h.ring
-      (λ m. stand_on m (omega arith, omega arith, omega arith, omega arith) h.stand
+      moves_on x BeginsFetch h refl refl tt refl (λ a b e. e) refl
+      (λ m. stand_on m (omega arith, omega arith, omega arith, omega arith) h.stand (unfetched_moved m (λ t. refl) h.unfetched)
       (record {
         copied = λ t y at. rw (same_Some y r (sym at ∙ next)) (stands_now m);
         rest = λ j y le lt at other. other_stays m (other_place g.submitted g.series j g.fetched y r series at next (other refl)) (h.pushed.rest j y le lt at (λ t. absurd (false≢true t)));
@@ -111,9 +111,11 @@ module _ {config : Options} {g : Flow} {d : Pipeline} {connected issuing : Bool}
       → Stepped None IsSame d [] (λ p. AreStations config (record g { fetched = g.fetched + 1 }) p connected issuing false ending telling replying requests (works ++ t ∷ []) pages)
   fetches {works = works} t r series next more number begun unread h =
       let x = h.pushed.copied refl r next in
-      moves_on x Fetches h refl refl (ap (slice_get (let ring : Ring = d.ring in ring.pushed)) h.ring.fetched ∙ h.ring.entries g.fetched r more next) refl (λ a b e. e) refl
-      (let fetched = h.ring.fetched in assumption (ap (λ (n : ℕ). n + 1) fetched))
+      moves_on x Fetches h refl refl tt refl (λ a b e. e) refl
       (λ m. stand_on {works' = works ++ t ∷ []} m (omega arith, omega arith, omega arith, omega arith) h.stand
+      (λ j q e left.
+      let was = other_was (λ (s : Station). is_unfetched s ≡ true) j m (λ t. false≢true t) e left in
+      left_more g.series g.fetched (r.number - 1) j r next (let positive = series.positive g.fetched r next in omega arith) was.0 (h.unfetched j q was.1 left))
       (record {
         copied = λ t. absurd (false≢true t);
         rest = λ j y le lt at other. other_stays m (other_place g.submitted g.series j g.fetched y r series at next (omega arith)) (h.pushed.rest j y (omega arith) lt at (λ u. omega arith));
@@ -151,15 +153,13 @@ module _ {config : Options} {g : Flow} {d : Pipeline} {connected issuing : Bool}
       → ((i : ℕ) (u : Work) → slice_get works i ≡ Some u → 1 ≤ u.id)
       → t'.id ≡ t.id
       → (let q : PipelineRequest = x.q in station_after q.submission move) ≡ worked t'.stage t'.moved
-      → ring_after d.ring (t.id - 1) move ≡ d.ring
       → ((r : Request) → slice_get g.submitted (t.id - 1) ≡ Some r → is_write r.transfer ≡ false → (let q : PipelineRequest = x.q in ReadAt pages r t'.moved t'.words (words_after move q.words) t'.stage × (has_data_at (worked t'.stage t'.moved) ≡ true → IsReadBack pages r r.count (words_after move q.words))))
       → AreStations config g d connected issuing fetching ending telling replying requests works pages
-      → AreStations config g (record d { requests = slice_set d.requests (t.id - 1) (moved x.q move); ring = ring_after d.ring (t.id - 1) move }) connected issuing fetching ending telling replying requests (slice_set works place t') pages
-  job_steps {works = works} place t t' x move here ascending positive number after still now h = record {
+      → AreStations config g (record d { requests = slice_set d.requests (t.id - 1) (moved x.q move) }) connected issuing fetching ending telling replying requests (slice_set works place t') pages
+  job_steps {works = works} place t t' x move here ascending positive number after now h = record {
     options = h.options;
     front = h.front;
-    ring = rw still h.ring;
-    stand = stand_on m (omega (arith, kind), omega (arith, kind), omega (arith, kind'), omega (arith, kind')) h.stand (pushed_moved m (omega (arith, kind)) (omega (arith, kind)) h.pushed)
+    stand = stand_on m (omega (arith, kind), omega (arith, kind), omega (arith, kind'), omega (arith, kind')) h.stand (unfetched_moved m (λ t. absurd (false≢true (sym (worked_fetched t'.stage t'.moved) ∙ t))) h.unfetched) (pushed_moved m (omega (arith, kind)) (omega (arith, kind)) h.pushed)
         (λ i u e. elim (set_was works place i t t' u here e) [
           | inl it ↦ rw (it.1, number) (stands_now m)
           | inr other ↦ other_stays m (apart i u other.0 other.1) (h.works i u other.1)
@@ -195,8 +195,8 @@ module _ {config : Options} {g : Flow} {d : Pipeline} {connected issuing : Bool}
       → Stepped None IsSame d [] (λ p. AreStations config g p connected issuing fetching ending telling (Some rep) requests (remove works place) pages)
   begins_response {works = works} place t rep here done number ascending positive h =
       let x : StandsAt d.requests (t.id - 1) (Ended rep.status) = subst (λ (s : Station). StandsAt d.requests (t.id - 1) s) done (h.works place t here) in
-      moves_on x (BeginsResponse rep.status) h refl refl tt refl (λ a b e. e) refl h.ring
-      (λ m. stand_on m (omega arith, omega arith, omega arith, omega arith) h.stand (pushed_moved m (omega arith) (omega arith) h.pushed)
+      moves_on x (BeginsResponse rep.status) h refl refl tt refl (λ a b e. e) refl
+      (λ m. stand_on m (omega arith, omega arith, omega arith, omega arith) h.stand (unfetched_moved m (λ t. absurd (false≢true t)) h.unfetched) (pushed_moved m (omega arith) (omega arith) h.pushed)
       (λ i u e.
       let was = removed_was works place i u e in
       other_stays m (other_number works place was.0 t u ascending positive here was.1 was.2) (h.works was.0 u was.2))
@@ -219,26 +219,11 @@ module _ {config : Options} {g : Flow} {d : Pipeline} {connected issuing : Bool}
       → Stepped None IsSame d (lines.Reply rep.id rep.status ∷ []) (λ p. AreStations config (record g { replied = g.replied + 1; replies = g.replies ++ rep ∷ [] }) p connected issuing fetching ending telling None requests works pages)
   replies {works = works} rep positive counted h =
       let x = h.replying rep refl in
-      moves_on x (Replies rep.status) h refl refl tt (ap (λ (n : ℕ). lines.Reply n rep.status ∷ []) (omega arith)) (λ a b e. e) refl ring
-      (λ m. stand_on {replies' = g.replies ++ rep ∷ []} m (omega arith, omega arith, omega arith, omega arith) h.stand (pushed_moved m (omega arith) (omega arith) h.pushed)
+      moves_on x (Replies rep.status) h refl refl tt (ap (λ (n : ℕ). lines.Reply n rep.status ∷ []) (omega arith)) (λ a b e. e) refl
+      (λ m. stand_on {replies' = g.replies ++ rep ∷ []} m (omega arith, omega arith, omega arith, omega arith) h.stand (unfetched_moved m (λ t. absurd (false≢true t)) h.unfetched) (pushed_moved m (omega arith) (omega arith) h.pushed)
       (works_moved works m (omega arith) h.works) (held_moved works m (omega arith) h.held) (λ r none. absurd (none-some r none))
       (λ i other e. elim (push_was g.replies rep i other e) [
         | inl was ↦ replied_moved g.replies m (omega arith) h.replied i other was
         | inr last ↦ rw last.1 (stands_now m)
       ]))
       (reads_moved (is_moved x (moved x.q (Replies rep.status)) refl refl) refl (λ t. t) h.reads)
-    where
-      ring : IsRing (record g { replied = g.replied + 1; replies = g.replies ++ rep ∷ [] }) (record d.ring { replied = d.ring.replied ++ (rep.id - 1) ∷ [] })
-      ring = record {
-        pushed = h.ring.pushed;
-        entries = h.ring.entries;
-        fetched = h.ring.fetched;
-        replied = omega (arith, length-append d.ring.replied ((rep.id - 1) ∷ []), h.ring.replied);
-        responses = λ i other e. elim (push_was g.replies rep i other e) [
-          | inl was ↦ get_append d.ring.replied ((rep.id - 1) ∷ []) (g.taken + i) (other.id - 1) (h.ring.responses i other was)
-          | inr last ↦
-              let at : g.taken + i ≡ length d.ring.replied = omega (arith, h.ring.replied, last.0) in
-              rw (at, last.1) (get_last d.ring.replied (rep.id - 1))
-        ];
-        taken = h.ring.taken;
-      }

@@ -1,5 +1,5 @@
 -- The steps of the pipeline that the front makes: it connects, begins an entry, pushes it, takes a response and answers.
-use Rattle.std.proofs.Common.{◌≡◌, ◌≢◌, ℕ, suc, ◌+◌, ◌-◌, ◌*◌, ◌<◌, ◌≤◌, inl, inr, Bool, true, false, not, cond, List, [], ◌∷◌, ◌++◌, length, drop, refl, ap, sym, ◌∙◌, subst, arith, length-append}
+use Rattle.std.proofs.Common.{◌≡◌, ◌≢◌, ℕ, suc, ◌+◌, ◌-◌, ◌*◌, ◌<◌, ◌≤◌, inl, inr, Bool, true, false, not, cond, List, [], ◌∷◌, ◌++◌, length, drop, refl, ap, sym, ◌∙◌, arith}
 use Rattle.std.specs.Prelude.{Option, Some, None, slice_get, slice_set, slice_index, remove}
 use Rattle.std.proofs.lemmas.Option.{none-some, same_Some}
 use Rattle.std.proofs.lemmas.Bool.{cases_Bool, false≢true, true≢false, cases_eq}
@@ -18,24 +18,23 @@ use Rattle.back_jobs.specs.Work.{Work}
 use Rattle.blk_back.specs.declared.stage.Reply.{Reply}
 use Rattle.pipeline_laws.specs.Station.{Station, Waiting, Issuing, Pushed, Fetching, Replying, Replied, Taking, Telling, Finished, PipelineRequest, is_finished, submitted}
 use Rattle.pipeline_laws.specs.Move.{answered_station, told_station, words_after, Move, BeginsEntry, Pushes, Takes, Answers, Tells, moved, station_before, station_after, move_lines}
-use Rattle.pipeline_laws.specs.Ring.{Ring, ring_after}
 use Rattle.pipeline_laws.specs.Pipeline.{Pipeline, Submits, Moves, Connects, StartsToClose}
 use Rattle.pipeline_laws.specs.Disk.{DiskGoes}
-use Rattle.pipeline_laws.specs.Allowed.{is_unissued, refusal_now, May}
+use Rattle.pipeline_laws.specs.Allowed.{is_unissued, is_unfetched, refusal_now, May}
 use Rattle.machine_pipeline.specs.Step.{IsSame}
 use Rattle.machine_pipeline.proofs.Flow.{Flow, worked, submitted_job, data_word}
 use Rattle.machine_pipeline.proofs.ReadBack.{IsReadBack, AreReadBack, has_data_at}
 use Rattle.machine_pipeline.proofs.ReadsKept.{reads_moved, reads_more}
 use Rattle.machine_pipeline.proofs.Lists.{same_words, all_at, pair_at, get_append, get_last, get_within}
-use Rattle.machine_pipeline.proofs.Series.{IsSeries, IsLeft, before as index_before, other_place, grown_before}
+use Rattle.machine_pipeline.proofs.Series.{IsSeries, left_more, left_grown, before as index_before, other_place, grown_before}
 use Rattle.machine_pipeline.proofs.Holds.{AreReplies, IsReply}
 use Rattle.machine_pipeline.proofs.Taking.{dropped, opened_without}
 use Rattle.machine_pipeline.proofs.Growing.{more_all, push_was, known_more, opened_more}
 use Rattle.machine_pipeline.proofs.Removals.{removed_was}
 use Rattle.machine_pipeline.proofs.Turns.{Stepped}
-use Rattle.machine_pipeline.proofs.Stations.{StandsAt, AreStations, AllStand, IsTaking, open_front, finishing, kind_of, AreOpen, IsRing, IsMoved, is_moved, stands_now, stands_too, other_was, other_stays, known_moved, open_moved, issued_moved, waiting_moved, pushed_moved, works_moved, held_moved, going_moved, IsGoing, replying_moved, replied_moved, taking_moved, finishing_kind, early_open}
+use Rattle.machine_pipeline.proofs.Stations.{StandsAt, AreStations, AllStand, IsTaking, open_front, finishing, kind_of, AreOpen, IsMoved, is_moved, stands_now, stands_too, other_was, other_stays, known_moved, open_moved, issued_moved, unfetched_moved, waiting_moved, pushed_moved, works_moved, held_moved, going_moved, IsGoing, replying_moved, replied_moved, taking_moved, finishing_kind, early_open}
 
--- a request moves from one station to another, and the pipeline's ring with it: so the step, where what is said of the ring and of all requests goes on holding
+-- a request moves from one station to another: so the step, where what is said of all requests goes on holding
 pub moves_on : {config : Options} {g g' : Flow} {d : Pipeline} {connected issuing issuing' fetching fetching' : Bool} {ending ending' : Option Ending} {telling telling' : Option ℕ} {replying replying' : Option Reply} {requests requests' : List Request} {works works' : List Work} {pages : List ℕ} {k : ℕ} {from to : Station} {said : List Line} (x : StandsAt d.requests k from) (move : Move)
     → AreStations config g d connected issuing fetching ending telling replying requests works pages
     → (let q : PipelineRequest = x.q in station_after q.submission move) ≡ to
@@ -44,17 +43,16 @@ pub moves_on : {config : Options} {g g' : Flow} {d : Pipeline} {connected issuin
     → move_lines k move ≡ said
     → ((a b : List (List ℕ)) → IsSame a b → DiskGoes (Moves k x.q move) a b)
     → g'.closing ≡ g.closing
-    → IsRing g' (ring_after d.ring k move)
     → (IsMoved d.requests (slice_set d.requests k (moved x.q move)) k from to → AllStand g'.submitted g'.series g'.pushed g'.fetched g'.replies (slice_set d.requests k (moved x.q move)) issuing' fetching' ending' telling' replying' requests' works')
     → AreReadBack g'.submitted (slice_set d.requests k (moved x.q move)) works' pages
     → Stepped None IsSame d said (λ p. AreStations config g' p connected issuing' fetching' ending' telling' replying' requests' works' pages)
-moves_on {connected = connected} {k = k} x move h after before may shows disk closing ring stand reads = record {
+moves_on {connected = connected} {k = k} x move h after before may shows disk closing stand reads = record {
   step = Moves k x.q move;
   allowed = (record { here = x.at; there = x.there ∙ sym before }, may);
   shows = shows;
   asks = refl;
   disk = disk;
-  now = record { options = h.options; front = h.front ∙ ap (open_front connected) (sym closing); ring = ring; stand = stand (is_moved x (moved x.q move) after refl); reads = reads };
+  now = record { options = h.options; front = h.front ∙ ap (open_front connected) (sym closing); stand = stand (is_moved x (moved x.q move) after refl); reads = reads };
 }
 
 -- the front begins to close
@@ -68,7 +66,7 @@ starts_to_close config g d connected issuing fetching ending telling replying re
   shows = refl;
   asks = refl;
   disk = λ a b e. e;
-  now = record { options = h.options; front = rw h.front refl; ring = h.ring; stand = h.stand; reads = h.reads };
+  now = record { options = h.options; front = rw h.front refl; stand = h.stand; reads = h.reads };
 }
 
 -- the front is connected
@@ -81,7 +79,7 @@ connects config g d issuing fetching ending telling replying requests works page
   shows = refl;
   asks = refl;
   disk = λ a b e. e;
-  now = record { options = h.options; front = rw h.front refl; ring = h.ring; stand = h.stand; reads = h.reads };
+  now = record { options = h.options; front = rw h.front refl; stand = h.stand; reads = h.reads };
 }
 
 -- the next request's entry is begun
@@ -92,13 +90,14 @@ pub begins_entry : (config : Options) (g : Flow) (d : Pipeline) (connected fetch
     → Stepped None IsSame d [] (λ p. AreStations config g p connected true fetching ending telling replying requests works pages)
 begins_entry config g d connected fetching ending telling replying requests works pages r series next h =
     let x = h.waiting.rest g.pushed r (omega arith) next (λ t. absurd (false≢true t)) in
-    moves_on x BeginsEntry h refl refl tt refl (λ a b e. e) refl h.ring (λ m. record {
+    moves_on x BeginsEntry h refl refl tt refl (λ a b e. e) refl (λ m. record {
       known = known_moved m h.known;
       opened = open_moved m refl refl h.opened;
       issued = λ j q e some. elim (cases_eq j (r.number - 1)) [
         | inl same ↦ record { index = g.pushed; late = omega arith; r = r; at = next; number = (let positive = series.positive g.pushed r next in omega arith) }
         | inr apart ↦ h.issued j q (sym (m.others j apart) ∙ e) some
       ];
+      unfetched = unfetched_moved m (λ t. refl) h.unfetched;
       waiting = record {
         issued = λ t y at. stands_too (λ (z : Request). z.number - 1) (λ (z : Request). Issuing) (same_Some r y (sym next ∙ at)) (stands_now m);
         rest = λ j y le at other. other_stays m (other_place g.submitted g.series j g.pushed y r series at next (other refl)) (h.waiting.rest j y le at (λ t. absurd (false≢true t)));
@@ -112,18 +111,6 @@ begins_entry config g d connected fetching ending telling replying requests work
       taking = taking_moved telling m (omega arith) h.taking;
     }) (reads_moved (is_moved x (moved x.q BeginsEntry) refl refl) refl (λ t. absurd (false≢true t)) h.reads)
 
--- one entry more on the ring
-ring_pushed : (g : Flow) (ring : Ring) (r : Request) → slice_get g.series g.pushed ≡ Some r → IsRing g ring → IsRing (record g { pushed = g.pushed + 1 }) (record ring { pushed = ring.pushed ++ (r.number - 1) ∷ [] })
-ring_pushed g ring r next h =
-    let counted : length (ring.pushed ++ (r.number - 1) ∷ []) ≡ g.pushed + 1 = omega (arith, length-append ring.pushed ((r.number - 1) ∷ []), h.pushed) in
-    let last : slice_get (ring.pushed ++ (r.number - 1) ∷ []) g.pushed ≡ Some (r.number - 1) = rw (← h.pushed) (get_last ring.pushed (r.number - 1)) in
-    let entries : (i : ℕ) (y : Request) → i < g.pushed + 1 → slice_get g.series i ≡ Some y
-    → slice_get (ring.pushed ++ (r.number - 1) ∷ []) i ≡ Some (y.number - 1) = λ i y lt at. elim (cases_eq i g.pushed) [
-      | inl same ↦ rw same (last ∙ ap (λ (z : Request). Some (z.number - 1)) (same_Some r y (sym next ∙ (ap (slice_get g.series) (sym same) ∙ at))))
-      | inr other ↦ get_append ring.pushed ((r.number - 1) ∷ []) i (y.number - 1) (h.entries i y (omega arith) at)
-    ] in
-    assumption (counted, entries)
-
 -- the entry is pushed
 pub pushes : (config : Options) (g : Flow) (d : Pipeline) (connected fetching : Bool) (ending : Option Ending) (telling : Option ℕ) (replying : Option Reply) (requests : List Request) (works : List Work) (pages : List ℕ) (r : Request)
     → IsSeries g.submitted g.series
@@ -133,10 +120,11 @@ pub pushes : (config : Options) (g : Flow) (d : Pipeline) (connected fetching : 
     → (fetching ≡ true → g.fetched < g.pushed)
     → Stepped None IsSame d [] (λ p. AreStations config (record g { pushed = g.pushed + 1 }) p connected false fetching ending telling replying requests works pages)
 pushes config g d connected fetching ending telling replying requests works pages r series next order h before =
-    moves_on x Pushes h refl refl (record { none = first }) refl (λ a b e. e) refl (ring_pushed g d.ring r next h.ring) (λ m. record {
+    moves_on x Pushes h refl refl (record { none = first }) refl (λ a b e. e) refl (λ m. record {
       known = known_moved m h.known;
       opened = open_moved m refl refl h.opened;
-      issued = λ j q e some. let was = other_was (λ (s : Station). is_unissued s ≡ true) j m (λ t. false≢true t) e some in one_left j was.0 (h.issued j q was.1 some);
+      issued = λ j q e some. let was = other_was (λ (s : Station). is_unissued s ≡ true) j m (λ t. false≢true t) e some in left_more g.series g.pushed k j r next number was.0 (h.issued j q was.1 some);
+      unfetched = unfetched_moved m (λ t. refl) h.unfetched;
       waiting = record {
         issued = λ t. absurd (false≢true t);
         rest = λ j y le at other. other_stays m (other_place g.submitted g.series j g.pushed y r series at next (omega arith)) (h.waiting.rest j y (omega arith) at (λ t. omega arith));
@@ -159,6 +147,9 @@ pushes config g d connected fetching ending telling replying requests works page
     k : ℕ
     k = r.number - 1
 
+    number : r.number ≡ k + 1
+    number = let positive = series.positive g.pushed r next in omega arith
+
     x : StandsAt d.requests k Issuing
     x = h.waiting.issued refl r next
 
@@ -171,20 +162,7 @@ pushes config g d connected fetching ending telling replying requests works page
       | inr f ↦ f
     ]
 
-    -- another one that is left comes after this
-    one_left : (j : ℕ) → j ≢ k → IsLeft g.series g.pushed j → IsLeft g.series (g.pushed + 1) j
-    one_left j apart left =
-        let other : left.index ≢ g.pushed = λ here. apart (omega (arith, left.number, ap (λ (z : Request). z.number) (same_Some left.r r (sym left.at ∙ (ap (slice_get g.series) here ∙ next))))) in
-        record { index = left.index; late = omega (arith, left.late, other); r = left.r; at = left.at; number = left.number }
-
 -- the oldest response is taken
-ring_taken : (g : Flow) (ring : Ring) → IsRing g ring → IsRing (record g { taken = g.taken + 1; replies = drop 1 g.replies }) (record ring { taken = ring.taken + 1 })
-ring_taken g ring h =
-    let responses : (i : ℕ) (rep : Reply) → slice_get (drop 1 g.replies) i ≡ Some rep → slice_get ring.replied (g.taken + 1 + i) ≡ Some (rep.id - 1) =
-    λ i rep e. ap (slice_get ring.replied) (omega arith) ∙ h.responses (suc i) rep (sym (dropped g.replies i) ∙ e) in
-    let taken : ring.taken + 1 ≡ g.taken + 1 = omega (arith, h.taken) in
-    assumption (responses, taken)
-
 pub takes : (config : Options) (g : Flow) (d : Pipeline) (connected issuing fetching : Bool) (replying : Option Reply) (requests : List Request) (works : List Work) (pages : List ℕ) (place : ℕ) (r : Request) (rep : Reply) (e : Ending)
     → slice_get g.replies 0 ≡ Some rep
     → slice_get requests place ≡ Some r
@@ -196,10 +174,11 @@ pub takes : (config : Options) (g : Flow) (d : Pipeline) (connected issuing fetc
     → Stepped None IsSame d [] (λ p. AreStations config (record g { taken = g.taken + 1; replies = drop 1 g.replies }) p connected issuing fetching (Some e) None replying (remove requests place) works pages)
 takes config g d connected issuing fetching replying requests works pages place r rep e oldest found number made apart replies h =
     let x = h.replied 0 rep oldest in
-    moves_on x (Takes rep.status) h refl refl (ap (slice_get (let ring : Ring = d.ring in ring.replied)) (omega (arith, h.ring.taken)) ∙ h.ring.responses 0 rep oldest) refl (λ a b e. e) refl (ring_taken g d.ring h.ring) (λ m. record {
+    moves_on x (Takes rep.status) h refl refl tt refl (λ a b e. e) refl (λ m. record {
       known = known_moved m h.known;
       opened = opened_without _ requests place r e found (ap (λ (y : Ending). y.request.number) made) (open_moved m refl refl h.opened);
       issued = issued_moved m refl h.issued;
+      unfetched = unfetched_moved m (λ t. absurd (false≢true t)) h.unfetched;
       waiting = waiting_moved m (omega arith) h.waiting;
       pushed = pushed_moved m (omega arith) (omega arith) h.pushed;
       works = works_moved works m (omega arith) h.works;
@@ -258,17 +237,17 @@ tells_on : {config : Options} {g : Flow} {d : Pipeline} {connected issuing fetch
     × May d (e.request.number - 1) q move × (words_after move q.words ≡ q.words))
     → move_lines (e.request.number - 1) move ≡ said
     → ((a b : List (List ℕ)) → IsSame a b → DiskGoes (Moves (e.request.number - 1) (let x = h.taking e refl in x.q) move) a b)
-    → ring_after d.ring (e.request.number - 1) move ≡ d.ring
     → (has_data_at (told_on status next) ≡ true → has_data_at (finishing telling e.status) ≡ true)
     → Stepped None IsSame d said (λ p. AreStations config g p connected issuing fetching (told_ending e next) next replying requests works pages)
-tells_on {g = g} {telling = telling} {requests = requests} {works = works} e move next status h positive stands shows disk still kept =
+tells_on {g = g} {telling = telling} {requests = requests} {works = works} e move next status h positive stands shows disk kept =
     let x = h.taking e refl in
     let kind = finishing_kind telling e.status in
     let early = early_open (finishing telling e.status) (omega (arith, kind)) in
-    moves_on x move h stands.0 stands.1 stands.2 shows disk refl (subst (IsRing g) (sym still) h.ring) (λ m. let left = by_next next m in record {
+    moves_on x move h stands.0 stands.1 stands.2 shows disk refl (λ m. let left = by_next next m in record {
       known = known_moved m h.known;
       opened = left.0 early h.opened;
       issued = issued_moved m left.3 h.issued;
+      unfetched = unfetched_moved m (λ t. absurd (false≢true (sym left.4 ∙ t))) h.unfetched;
       waiting = waiting_moved m (omega (arith, kind)) h.waiting;
       pushed = pushed_moved m (omega (arith, kind)) (omega (arith, kind)) h.pushed;
       works = works_moved works m (omega (arith, kind)) h.works;
@@ -281,10 +260,10 @@ tells_on {g = g} {telling = telling} {requests = requests} {works = works} e mov
   where
     by_next : {asked after : List PipelineRequest} {from : Station} (n : Option ℕ) (m : IsMoved asked after (e.request.number - 1) from (told_on status n))
         → (is_finished from ≡ false → AreOpen asked requests (Some e) → AreOpen after requests (told_ending e n))
-        × IsTaking (told_ending e n) n after × (7 ≤ kind_of (told_on status n)) × (is_unissued (told_on status n) ≡ false)
-    by_next None m = (λ early. opened_finished e m early (omega arith), λ f same. absurd (none-some f same), omega arith, refl)
+        × IsTaking (told_ending e n) n after × (7 ≤ kind_of (told_on status n)) × (is_unissued (told_on status n) ≡ false) × (is_unfetched (told_on status n) ≡ false)
+    by_next None m = (λ early. opened_finished e m early (omega arith), λ f same. absurd (none-some f same), omega arith, refl, refl)
     by_next (Some n) m =
-        (λ early. open_moved m early refl, λ f same. stands_too (λ (y : Ending). y.request.number - 1) (λ (y : Ending). Telling n) (same_Some e f same) (stands_now m), omega arith, refl)
+        (λ early. open_moved m early refl, λ f same. stands_too (λ (y : Ending). y.request.number - 1) (λ (y : Ending). Telling n) (same_Some e f same) (stands_now m), omega arith, refl, refl)
 
 -- its answer is told, with which it is finished, but for a read that went well: its data are told after it
 pub unread : (way : Transfer) (sector count : ℕ) (status : Status) → has_data way status ≡ false → answered_station (submitted_job way sector count) status ≡ Finished status
@@ -305,7 +284,7 @@ pub answers : (config : Options) (g : Flow) (d : Pipeline) (connected issuing fe
 answers config g d connected issuing fetching replying requests works pages e next asked positive after okay h =
     let x = h.taking e refl in
     let job = h.known.each (e.request.number - 1) e.request x.q asked x.at in
-    tells_on e (Answers e.status) next e.status h positive (rw job after, refl, tt, refl) (ap (λ (n : ℕ). lines.Answer n e.status ∷ []) (omega arith)) (λ a b same. same) refl
+    tells_on e (Answers e.status) next e.status h positive (rw job after, refl, tt, refl) (ap (λ (n : ℕ). lines.Answer n e.status ∷ []) (omega arith)) (λ a b same. same)
     (λ t. rw (okay t) refl)
 
 -- a sector that its frames hold is one of those that its job read
@@ -338,7 +317,7 @@ tells config g d connected issuing fetching replying requests works pages words 
     let job = h.known.each (e.request.number - 1) e.request x.q asked x.at in
     let back = h.reads.after (e.request.number - 1) e.request x.q asked x.at (ap is_write way) (ap has_data_at x.there) in
     tells_on e (Tells i words) next Okay h positive (rw (job, way) after, refl, noted_at pages words e.request i _ back within size same, refl)
-    (ap (λ (n : ℕ). lines.Data n i words ∷ []) (omega arith)) (λ a b same. same) refl (λ t. refl)
+    (ap (λ (n : ℕ). lines.Data n i words ∷ []) (omega arith)) (λ a b same. same) (λ t. refl)
 
 -- a request more is submitted
 stands_more : (asked : List PipelineRequest) (q : PipelineRequest) (k : ℕ) (station : Station) → StandsAt asked k station → StandsAt (asked ++ q ∷ []) k station
@@ -362,13 +341,16 @@ submits config g d connected issuing fetching ending telling replying requests w
   now = record {
     options = h.options;
     front = h.front;
-    ring = record { pushed = h.ring.pushed; entries = λ i r lt at. h.ring.entries i r lt (sym (grown_before g.series x i (omega arith)) ∙ at); fetched = h.ring.fetched; replied = h.ring.replied; responses = h.ring.responses; taken = h.ring.taken };
     stand = record {
       known = known_more g.submitted d.requests x (submitted job) refl h.known;
       opened = opened_more d.requests requests ending x (submitted job) refl number h.opened;
       issued = λ j q e some. elim (push_was d.requests (submitted job) j q e) [
-        | inl was ↦ (let left = h.issued j q was some in record { index = left.index; late = left.late; r = left.r; at = get_append g.series (x ∷ []) left.index left.r left.at; number = left.number })
+        | inl was ↦ left_grown g.series x (h.issued j q was some)
         | inr new ↦ record { index = length g.series; late = few; r = x; at = get_last g.series x; number = omega (arith, number, new.0) }
+      ];
+      unfetched = λ j q e some. elim (push_was d.requests (submitted job) j q e) [
+        | inl was ↦ left_grown g.series x (h.unfetched j q was some)
+        | inr new ↦ record { index = length g.series; late = omega arith; r = x; at = get_last g.series x; number = omega (arith, number, new.0) }
       ];
       waiting = record {
         issued = λ t r at. stands_more d.requests (submitted job) (r.number - 1) Issuing (h.waiting.issued t r (sym (grown_before g.series x g.pushed (some_issued t)) ∙ at));

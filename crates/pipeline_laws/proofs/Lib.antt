@@ -4,7 +4,6 @@ pub mod Content
 pub mod DiskDoes
 pub mod Operations
 pub mod Matches
-pub mod Order
 pub mod Clear
 pub mod Serving
 pub mod Moving
@@ -24,7 +23,4 @@ pub mod Sampling
 pub mod Samples
 pub mod Refused
 pub mod Counts
-pub mod Sections
-pub mod Named
-pub mod Queues
 pub mod Recorded

@@ -17,7 +17,6 @@ use Rattle.plain_disk.specs.Disk.{Disk, noted_at}
 use Rattle.plain_disk.specs.Step.{with_request, is_status, is_okay, told_stage, next_stage, are_noted}
 use Rattle.pipeline_laws.specs.Station.{Station, Waiting, Issuing, Pushed, Fetching, Working, Failed, Ended, Replying, Replied, Taking, Telling, Finished, PipelineRequest, asked, asked_at}
 use Rattle.pipeline_laws.specs.Move.{Move, BeginsEntry, Pushes, BeginsFetch, Fetches, Ends, BeginsResponse, Replies, Takes, Answers, Tells, station_before, moved, move_lines, answered_station, told_station}
-use Rattle.pipeline_laws.specs.Ring.{Ring}
 use Rattle.pipeline_laws.specs.Pipeline.{Pipeline, Moves, next}
 use Rattle.pipeline_laws.specs.Allowed.{IsAt, May}
 use Rattle.pipeline_laws.proofs.Lists.{each_kept, set_same}
@@ -26,8 +25,8 @@ use Rattle.pipeline_laws.proofs.Matches.{Matches, IsTold, IsLong, IsDone, done_a
 use Rattle.pipeline_laws.proofs.Serving.{Leads, one_line}
 
 -- a request is elsewhere, and the plain disk keeps the same of it
-stays : (p : Pipeline) (d : Disk) (content : List (List ℕ)) (ring : Ring) (k : ℕ) (x y : PipelineRequest) → slice_get p.requests k ≡ Some x → asked y ≡ asked x → IsTold d.done d.noted k y → Matches p d content → Leads (record p { requests = slice_set p.requests k y; ring = ring }) d [] content
-stays p d content ring k x y here same told m = record {
+stays : (p : Pipeline) (d : Disk) (content : List (List ℕ)) (k : ℕ) (x y : PipelineRequest) → slice_get p.requests k ≡ Some x → asked y ≡ asked x → IsTold d.done d.noted k y → Matches p d content → Leads (record p { requests = slice_set p.requests k y }) d [] content
+stays p d content k x y here same told m = record {
   disk = d;
   run = refl;
   matches = record {
@@ -59,21 +58,21 @@ goes_on p d content k x move silent may at m = by_move move silent may at.there
     same station e = ap (asked_at x.submission) (sym e)
 
     by_move : (mv : Move) → move_lines k mv ≡ [] → May p k x mv → x.station ≡ station_before x.submission mv → Leads (next p (Moves k x mv)) d (move_lines k mv) content
-    by_move BeginsEntry none may e = stays p d content _ k x (moved x BeginsEntry) at.here (same Waiting e) (record { done = done Waiting e; noted = was.noted; long = tt; served = refl }) m
-    by_move Pushes none may e = stays p d content _ k x (moved x Pushes) at.here (same Issuing e) (record { done = done Issuing e; noted = was.noted; long = tt; served = refl }) m
-    by_move BeginsFetch none may e = stays p d content _ k x (moved x BeginsFetch) at.here (same Pushed e) (record { done = done Pushed e; noted = was.noted; long = tt; served = refl }) m
-    by_move Fetches none may e = stays p d content _ k x (moved x Fetches) at.here (same Fetching e) (record { done = done Fetching e; noted = λ i w f. absurd (none-some w f); long = fresh_long (is_read x.submission); served = refl }) m
-    by_move (Ends status.Okay) none may e = stays p d content _ k x (moved x (Ends status.Okay)) at.here (same (Working (places_of x.submission)) e) (record { done = done (Working (places_of x.submission)) e; noted = was.noted; long = tt; served = refl }) m
-    by_move (Ends status.Error) none may e = stays p d content _ k x (moved x (Ends status.Error)) at.here (same Failed e) (record { done = tt; noted = was.noted; long = tt; served = refl }) m
+    by_move BeginsEntry none may e = stays p d content k x (moved x BeginsEntry) at.here (same Waiting e) (record { done = done Waiting e; noted = was.noted; long = tt; served = refl }) m
+    by_move Pushes none may e = stays p d content k x (moved x Pushes) at.here (same Issuing e) (record { done = done Issuing e; noted = was.noted; long = tt; served = refl }) m
+    by_move BeginsFetch none may e = stays p d content k x (moved x BeginsFetch) at.here (same Pushed e) (record { done = done Pushed e; noted = was.noted; long = tt; served = refl }) m
+    by_move Fetches none may e = stays p d content k x (moved x Fetches) at.here (same Fetching e) (record { done = done Fetching e; noted = λ i w f. absurd (none-some w f); long = fresh_long (is_read x.submission); served = refl }) m
+    by_move (Ends status.Okay) none may e = stays p d content k x (moved x (Ends status.Okay)) at.here (same (Working (places_of x.submission)) e) (record { done = done (Working (places_of x.submission)) e; noted = was.noted; long = tt; served = refl }) m
+    by_move (Ends status.Error) none may e = stays p d content k x (moved x (Ends status.Error)) at.here (same Failed e) (record { done = tt; noted = was.noted; long = tt; served = refl }) m
     by_move (Ends status.Unsupported) none may e = absurd may
-    by_move (BeginsResponse s) none may e = stays p d content _ k x (moved x (BeginsResponse s)) at.here (same (Ended s) e) (record { done = done (Ended s) e; noted = was.noted; long = tt; served = served (Ended s) e }) m
-    by_move (Takes s) none may e = stays p d content _ k x (moved x (Takes s)) at.here (same (Replied s) e) (record { done = tt; noted = was.noted; long = tt; served = refl }) m
+    by_move (BeginsResponse s) none may e = stays p d content k x (moved x (BeginsResponse s)) at.here (same (Ended s) e) (record { done = done (Ended s) e; noted = was.noted; long = tt; served = served (Ended s) e }) m
+    by_move (Takes s) none may e = stays p d content k x (moved x (Takes s)) at.here (same (Replied s) e) (record { done = tt; noted = was.noted; long = tt; served = refl }) m
     by_move mv none may e = absurd (cc)
 
 -- a request is told of
-changed : (p : Pipeline) (d : Disk) (content : List (List ℕ)) (ring : Ring) (k : ℕ) (x y : PipelineRequest) (r : DiskRequest) → slice_get p.requests k ≡ Some x → r ≡ asked y → IsTold d.done d.noted k y → Matches p d content
-    → Matches (record p { requests = slice_set p.requests k y; ring = ring }) (record d { requests = with_request d.requests (k + 1) r }) content
-changed p d content ring k x y r here same told m = record {
+changed : (p : Pipeline) (d : Disk) (content : List (List ℕ)) (k : ℕ) (x y : PipelineRequest) (r : DiskRequest) → slice_get p.requests k ≡ Some x → r ≡ asked y → IsTold d.done d.noted k y → Matches p d content
+    → Matches (record p { requests = slice_set p.requests k y }) (record d { requests = with_request d.requests (k + 1) r }) content
+changed p d content k x y r here same told m = record {
   requests = rw same (set_asked d.requests p.requests k y m.requests);
   each = each_kept (IsTold d.done d.noted) p.requests k y told m.each;
   later = λ id above. m.later id (rw length-set at above);
@@ -88,7 +87,7 @@ replies p d content k x s at m = by_status s at
     was = m.each k x at.here
 
     later : (t : Status) (r : DiskRequest) → r ≡ asked_at x.submission (Replied t) → Matches (next p (Moves k x (Replies t))) (record d { requests = with_request d.requests (k + 1) r }) content
-    later t r e = changed p d content _ k x (moved x (Replies t)) r at.here e (record { done = tt; noted = was.noted; long = tt; served = refl }) m
+    later t r e = changed p d content k x (moved x (Replies t)) r at.here e (record { done = tt; noted = was.noted; long = tt; served = refl }) m
 
     by_status : (t : Status) → IsAt p k x (Replying t) → Leads (next p (Moves k x (Replies t))) d (move_lines k (Replies t)) content
     by_status status.Okay a =
@@ -140,7 +139,7 @@ answers p d content k x s at m =
     record {
       disk = record d { requests = with_request d.requests (k + 1) (record (asked_at x.submission (Taking s)) { stage = told_stage x.submission s }) };
       run = one_line d _ (lines.Answer (k + 1) s) (rw (asked_here p d content k x (Taking s) m at, same_status s) refl);
-      matches = changed p d content _ k x (moved x (Answers s)) _ at.here (answered_as x.submission s)
+      matches = changed p d content k x (moved x (Answers s)) _ at.here (answered_as x.submission s)
           (record { done = told_either read d.done (k + 1) 0 x.submission s; noted = (m.each k x at.here).noted; long = long_either read (is_read x.submission) 0 s x.words; served = served_either read 0 s }) m;
     }
 
@@ -163,6 +162,6 @@ tells p d content k x n words at has m =
     record {
       disk = record d { requests = with_request d.requests (k + 1) (record (asked_at x.submission (Telling n)) { stage = next_stage x.submission n }) };
       run = one_line d _ (lines.Data (k + 1) n words) (rw (asked_here p d content k x (Telling n) m at, next_one, same_noted (noted_at d.noted (k + 1) n) words (was.noted n words has)) refl);
-      matches = changed p d content _ k x (moved x (Tells n words)) _ at.here (told_as x.submission n)
+      matches = changed p d content k x (moved x (Tells n words)) _ at.here (told_as x.submission n)
           (record { done = told_either more d.done (k + 1) (n + 1) x.submission status.Okay; noted = was.noted; long = long_either more (is_read x.submission) (n + 1) status.Okay x.words; served = served_either more (n + 1) status.Okay }) m;
     }

@@ -1,44 +1,35 @@
 -- Wrong steps that the pipeline doesn't allow.
-use Rattle.std.proofs.Common.{◌≡◌, ℕ, zero, suc, ◌<◌, true, false, [], ◌∷◌, ◌++◌, refl, ap, sym, ◌∙◌, subst, arith}
+use Rattle.std.proofs.Common.{◌≡◌, true, false, [], ◌∷◌, ◌++◌, refl, ap, sym, ◌∙◌, subst, arith}
 use Rattle.std.specs.Prelude.{Some, slice_get}
+use Rattle.std.proofs.lemmas.Bool.{true≢false}
 use Rattle.std.proofs.lemmas.Option.{none-some, same_Some}
 use Rattle.blk_base.specs.declared.operation.Status.{Status}
 use Rattle.blk_base.specs.declared.operation.Status.TheVariants.{Okay}
 use Rattle.blk_base.specs.declared.refusal.Refusal.{Refusal}
 use Rattle.plain_disk.specs.Request.{is_barrier}
-use Rattle.pipeline_laws.specs.Station.{Waiting, Working, Taking, Finished, PipelineRequest}
-use Rattle.pipeline_laws.specs.Move.{Pushes, BeginsFetch, Fills, Ends, Answers, station_before}
-use Rattle.pipeline_laws.specs.Pipeline.{Submits, Refuses, Moves, Connects, StartsToClose, Closes, Rests, pipeline_of, after_steps}
-use Rattle.pipeline_laws.specs.Allowed.{is_in_way, IsAllowed}
-use Rattle.pipeline_laws.specs.Samples.{two_sectors, at, write, barrier, long_write, past_end, order_steps, second_begun, two_entries, two_jobs, half_done}
+use Rattle.pipeline_laws.specs.Station.{Station, Waiting, Pushed, Working, Taking, Finished, PipelineRequest}
+use Rattle.pipeline_laws.specs.Move.{Pushes, Fills, Ends, Answers, station_before}
+use Rattle.pipeline_laws.specs.Pipeline.{Pipeline, Submits, Refuses, Moves, Connects, StartsToClose, Closes, Rests, pipeline_of, after_steps}
+use Rattle.pipeline_laws.specs.Allowed.{IsClear, has_places, is_in_way, IsAllowed}
+use Rattle.pipeline_laws.specs.Samples.{two_sectors, at, write, barrier, long_write, past_end, order_steps, second_begun, second_fetched, two_jobs, half_done}
 
--- a barrier that works before an earlier write is done
+-- a barrier that works before an earlier write is done, or is fetched
+barrier_in_way : (p : Pipeline) (x : PipelineRequest) (station : Station) → IsClear p 1 x → at barrier (Working 0) ≡ x → slice_get p.requests 0 ≡ Some (at write station) → has_places write.submission station ≡ true → ⊥
+barrier_in_way p x station clear is first left =
+    let way : is_in_way true (at write station) ≡ false = subst (λ (y : PipelineRequest). is_in_way (is_barrier y.submission) (at write station) ≡ false) (sym is) (clear.clear 0 (at write station) (omega arith) first) in
+    true≢false (sym left ∙ way)
+
 pub barrier_waits : (x : PipelineRequest) → IsAllowed (after_steps two_jobs (pipeline_of two_sectors)) (Moves 1 x (Fills 0)) → ⊥
-barrier_waits x may = by_index may.1.2.index may.1.2.entry may.1.2.clear
-  where
-    is : at barrier (Working 0) ≡ x
-    is = same_Some _ x may.0.here
+barrier_waits x may = barrier_in_way _ x (Working 0) may.1.2 (same_Some _ x may.0.here) refl refl
 
-    by_index : (index : ℕ) → slice_get {X = ℕ} (0 ∷ 1 ∷ []) index ≡ Some 1
-        → ((i j : ℕ) (y : PipelineRequest) → i < index → slice_get {X = ℕ} (0 ∷ 1 ∷ []) i ≡ Some j → slice_get (at write (Working 0) ∷ at barrier (Working 0) ∷ []) j ≡ Some y → is_in_way (is_barrier x.submission) y ≡ false) → ⊥
-    by_index zero entry clear = absurd (cc)
-    by_index (suc zero) entry clear =
-        let way : is_in_way (is_barrier x.submission) (at write (Working 0)) ≡ false = clear 0 0 (at write (Working 0)) (omega arith) refl refl in
-        let here : is_in_way true (at write (Working 0)) ≡ false = subst (λ (y : PipelineRequest). is_in_way (is_barrier y.submission) (at write (Working 0)) ≡ false) (sym is) way in
-        absurd (cc)
-    by_index (suc (suc index)) entry clear = none-some 1 entry
+pub fetch_waits : (x : PipelineRequest) → IsAllowed (after_steps second_fetched (pipeline_of two_sectors)) (Moves 1 x (Fills 0)) → ⊥
+fetch_waits x may = barrier_in_way _ x Pushed may.1.2 (same_Some _ x may.0.here) refl refl
 
 -- a request pushed before one of a lower number
 pub push_waits : (x : PipelineRequest) → IsAllowed (after_steps second_begun (pipeline_of two_sectors)) (Moves 1 x Pushes) → ⊥
 push_waits x may =
     let first : true ≡ false = may.1.none 0 (at write Waiting) (omega arith) refl in
     absurd (cc)
-
--- an entry fetched before that at the index
-pub fetch_waits : (x : PipelineRequest) → IsAllowed (after_steps two_entries (pipeline_of two_sectors)) (Moves 1 x BeginsFetch) → ⊥
-fetch_waits x may =
-    let one : ◌≡◌ {A = ℕ} 0 1 = same_Some 0 1 may.1 in
-    absurd (omega arith)
 
 -- a submission that ends `ok` with a sector left
 pub end_waits : (x : PipelineRequest) → IsAllowed (after_steps half_done (pipeline_of two_sectors)) (Moves 0 x (Ends Okay)) → ⊥

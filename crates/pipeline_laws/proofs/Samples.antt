@@ -18,13 +18,13 @@ barrier_allowed =
     (allowed_append barrier_works barrier_ends (after_steps barrier_begins (pipeline_of two_sectors)) works ends)
   where
     begins : AreAllowed barrier_begins (pipeline_of two_sectors)
-    begins = ((refl, refl), (refl, (refl, ((here _ 0 _ refl, tt), ((here _ 0 _ refl, first _), ((here _ 0 _ refl, refl), ((here _ 0 _ refl, refl), ((here _ 0 _ refl, (refl, omega arith, clear _ 0 _ refl)), (tt, ((refl, refl), tt))))))))))
+    begins = ((refl, refl), (refl, (refl, ((here _ 0 _ refl, tt), ((here _ 0 _ refl, first _), ((here _ 0 _ refl, tt), ((here _ 0 _ refl, tt), ((here _ 0 _ refl, (refl, omega arith, clear _ _)), (tt, ((refl, refl), tt))))))))))
 
     works : AreAllowed barrier_works (after_steps barrier_begins (pipeline_of two_sectors))
-    works = ((here _ 0 _ refl, tt), ((here _ 0 _ refl, first _), ((here _ 1 _ refl, tt), ((here _ 1 _ refl, second _ (at write Pushed) _ refl refl), ((here _ 0 _ refl, refl), ((here _ 0 _ refl, refl), ((here _ 1 _ refl, refl), ((here _ 1 _ refl, refl), ((here _ 0 _ refl, (refl, omega arith, clear _ 0 _ refl)), ((here _ 1 _ refl, (refl, omega arith, clear_after _ 1 _ 0 (at write (Working 1)) refl refl refl refl)), tt))))))))))
+    works = ((here _ 0 _ refl, tt), ((here _ 0 _ refl, first _), ((here _ 1 _ refl, tt), ((here _ 1 _ refl, second _ (at write Pushed) _ refl refl), ((here _ 0 _ refl, tt), ((here _ 0 _ refl, tt), ((here _ 1 _ refl, tt), ((here _ 1 _ refl, tt), ((here _ 0 _ refl, (refl, omega arith, clear _ _)), ((here _ 1 _ refl, (refl, omega arith, clear_after _ _ (at write (Working 1)) refl refl)), tt))))))))))
 
     ends : AreAllowed barrier_ends (after_steps barrier_works (after_steps barrier_begins (pipeline_of two_sectors)))
-    ends = ((here _ 1 _ refl, tt), ((here _ 1 _ refl, tt), ((here _ 1 _ refl, tt), ((here _ 0 _ refl, tt), ((here _ 0 _ refl, tt), ((here _ 0 _ refl, tt), ((here _ 1 _ refl, refl), ((here _ 1 _ refl, tt), ((here _ 0 _ refl, refl), ((here _ 0 _ refl, tt), (two_finished _ (at write (Finished Okay)) (at barrier (Finished Okay)) refl refl refl, tt)))))))))))
+    ends = ((here _ 1 _ refl, tt), ((here _ 1 _ refl, tt), ((here _ 1 _ refl, tt), ((here _ 0 _ refl, tt), ((here _ 0 _ refl, tt), ((here _ 0 _ refl, tt), ((here _ 1 _ refl, tt), ((here _ 1 _ refl, tt), ((here _ 0 _ refl, tt), ((here _ 0 _ refl, tt), (two_finished _ (at write (Finished Okay)) (at barrier (Finished Okay)) refl refl refl, tt)))))))))))
 
 pub barrier_disk : (a b : List ℕ) → DiskRuns barrier_steps (a ∷ b ∷ []) (filling barrier.submission 0 ∷ b ∷ [])
 barrier_disk a b = (_, refl, (_, refl, (_, refl, (_, refl, (_, refl, (_, refl, (_, refl, (_, refl, (_, refl, (_, refl, (_, refl, (_, refl, (_, refl, (_, refl, (_, refl, (_, refl, (_, refl, (_, refl, (_, refl, (_, refl, (_, refl, (_, refl, (_, refl, (_, refl, (_, refl, (_, refl, (_, refl, (_, refl, (_, refl, (_, refl, (_, refl, refl)))))))))))))))))))))))))))))))
@@ -33,10 +33,10 @@ pub order_allowed : AreAllowed order_steps (pipeline_of two_sectors)
 order_allowed = allowed_append order_begins order_ends (pipeline_of two_sectors) begins ends
   where
     begins : AreAllowed order_begins (pipeline_of two_sectors)
-    begins = ((refl, refl), (refl, (refl, ((here _ 0 _ refl, tt), ((here _ 0 _ refl, first _), ((here _ 1 _ refl, tt), ((here _ 1 _ refl, second _ (at write Pushed) _ refl refl), ((here _ 0 _ refl, refl), ((here _ 0 _ refl, refl), ((here _ 1 _ refl, refl), ((here _ 1 _ refl, refl), tt)))))))))))
+    begins = ((refl, refl), (refl, (refl, ((here _ 0 _ refl, tt), ((here _ 0 _ refl, first _), ((here _ 1 _ refl, tt), ((here _ 1 _ refl, second _ (at write Pushed) _ refl refl), ((here _ 0 _ refl, tt), ((here _ 0 _ refl, tt), ((here _ 1 _ refl, tt), ((here _ 1 _ refl, tt), tt)))))))))))
 
     ends : AreAllowed order_ends (after_steps order_begins (pipeline_of two_sectors))
-    ends = ((here _ 1 _ refl, (refl, omega arith, clear_after _ 1 _ 0 (at write (Working 0)) refl refl refl refl)), ((here _ 1 _ refl, tt), ((here _ 1 _ refl, tt), ((here _ 1 _ refl, tt), ((here _ 1 _ refl, refl), ((here _ 1 _ refl, tt), ((here _ 0 _ refl, (refl, omega arith, clear _ 0 _ refl)), ((here _ 0 _ refl, tt), ((here _ 0 _ refl, tt), ((here _ 0 _ refl, tt), ((here _ 0 _ refl, refl), ((here _ 0 _ refl, tt), (two_finished _ (at write (Finished Okay)) (at other_write (Finished Okay)) refl refl refl, tt)))))))))))))
+    ends = ((here _ 1 _ refl, (refl, omega arith, clear_after _ _ (at write (Working 0)) refl refl)), ((here _ 1 _ refl, tt), ((here _ 1 _ refl, tt), ((here _ 1 _ refl, tt), ((here _ 1 _ refl, tt), ((here _ 1 _ refl, tt), ((here _ 0 _ refl, (refl, omega arith, clear _ _)), ((here _ 0 _ refl, tt), ((here _ 0 _ refl, tt), ((here _ 0 _ refl, tt), ((here _ 0 _ refl, tt), ((here _ 0 _ refl, tt), (two_finished _ (at write (Finished Okay)) (at other_write (Finished Okay)) refl refl refl, tt)))))))))))))
 
 pub order_disk : (a b : List ℕ) → DiskRuns order_steps (a ∷ b ∷ []) (filling write.submission 0 ∷ filling other_write.submission 0 ∷ [])
 order_disk a b = (_, refl, (_, refl, (_, refl, (_, refl, (_, refl, (_, refl, (_, refl, (_, refl, (_, refl, (_, refl, (_, refl, (_, refl, (_, refl, (_, refl, (_, refl, (_, refl, (_, refl, (_, refl, (_, refl, (_, refl, (_, refl, (_, refl, (_, refl, (_, refl, refl))))))))))))))))))))))))
@@ -45,16 +45,16 @@ pub read_allowed : (words : List ℕ) → AreAllowed (read_steps words) (pipelin
 read_allowed words = allowed_append (read_begins words) (read_ends words) (pipeline_of two_sectors) begins ends
   where
     begins : AreAllowed (read_begins words) (pipeline_of two_sectors)
-    begins = ((refl, refl), (refl, ((here _ 0 _ refl, tt), ((here _ 0 _ refl, first _), ((here _ 0 _ refl, refl), ((here _ 0 _ refl, refl), ((here _ 0 _ refl, (refl, omega arith)), ((here _ 0 _ refl, tt), ((here _ 0 _ refl, tt), ((here _ 0 _ refl, tt), (tt, ((refl, refl), tt))))))))))))
+    begins = ((refl, refl), (refl, ((here _ 0 _ refl, tt), ((here _ 0 _ refl, first _), ((here _ 0 _ refl, tt), ((here _ 0 _ refl, tt), ((here _ 0 _ refl, (refl, omega arith)), ((here _ 0 _ refl, tt), ((here _ 0 _ refl, tt), ((here _ 0 _ refl, tt), (tt, ((refl, refl), tt))))))))))))
 
     ends : AreAllowed (read_ends words) (after_steps (read_begins words) (pipeline_of two_sectors))
-    ends = ((here _ 0 _ refl, tt), ((here _ 0 _ refl, first _), ((here _ 0 _ refl, refl), ((here _ 0 _ refl, refl), ((here _ 0 _ refl, (refl, omega arith)), ((here _ 0 _ refl, tt), ((here _ 0 _ refl, tt), ((here _ 0 _ refl, tt), ((here _ 0 _ refl, refl), ((here _ 0 _ refl, tt), ((here _ 0 _ refl, refl), (one_finished _ (at (with_words words) (Finished Okay)) refl refl, tt))))))))))))
+    ends = ((here _ 0 _ refl, tt), ((here _ 0 _ refl, first _), ((here _ 0 _ refl, tt), ((here _ 0 _ refl, tt), ((here _ 0 _ refl, (refl, omega arith)), ((here _ 0 _ refl, tt), ((here _ 0 _ refl, tt), ((here _ 0 _ refl, tt), ((here _ 0 _ refl, tt), ((here _ 0 _ refl, tt), ((here _ 0 _ refl, refl), (one_finished _ (at (with_words words) (Finished Okay)) refl refl, tt))))))))))))
 
 pub read_disk : (a words : List ℕ) → DiskRuns (read_steps words) (a ∷ words ∷ []) (a ∷ words ∷ [])
 read_disk a words = (_, refl, (_, refl, (_, refl, (_, refl, (_, refl, (_, refl, (_, (refl, refl), (_, refl, (_, refl, (_, refl, (_, refl, (_, refl, (_, refl, (_, refl, (_, refl, (_, refl, (_, (refl, refl), (_, refl, (_, refl, (_, refl, (_, refl, (_, refl, (_, refl, (_, refl, refl))))))))))))))))))))))))
 
 pub fault_allowed : AreAllowed fault_steps (pipeline_of two_sectors)
-fault_allowed = ((refl, refl), (refl, ((here _ 0 _ refl, tt), ((here _ 0 _ refl, first _), ((here _ 0 _ refl, refl), ((here _ 0 _ refl, refl), ((here _ 0 _ refl, (refl, omega arith, clear _ 0 _ refl)), ((here _ 0 _ refl, (omega arith, λ e. clear _ 0 _ refl)), ((here _ 0 _ refl, tt), ((here _ 0 _ refl, tt), ((here _ 0 _ refl, tt), ((here _ 0 _ refl, refl), ((here _ 0 _ refl, tt), (over _ refl, (refl, ((refl, refl, over _ refl), ((refl, refl, over _ refl), tt)))))))))))))))))
+fault_allowed = ((refl, refl), (refl, ((here _ 0 _ refl, tt), ((here _ 0 _ refl, first _), ((here _ 0 _ refl, tt), ((here _ 0 _ refl, tt), ((here _ 0 _ refl, (refl, omega arith, clear _ _)), ((here _ 0 _ refl, (omega arith, λ e. clear _ _)), ((here _ 0 _ refl, tt), ((here _ 0 _ refl, tt), ((here _ 0 _ refl, tt), ((here _ 0 _ refl, tt), ((here _ 0 _ refl, tt), (over _ refl, (refl, ((refl, refl, over _ refl), ((refl, refl, over _ refl), tt)))))))))))))))))
   where
     over : (p : Pipeline) → p.requests ≡ at long_write (Finished Error) ∷ [] → AreFinished p
     over p all = one_finished p (at long_write (Finished Error)) all refl

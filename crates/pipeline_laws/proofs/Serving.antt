@@ -23,7 +23,6 @@ use Rattle.pipeline_laws.proofs.Done.{IsDoneTo, done_more, done_other, noted_her
 use Rattle.pipeline_laws.proofs.Content.{Changes, IsKnown, known_more, known_read, known_same}
 use Rattle.pipeline_laws.proofs.Operations.{write_no_read, flush_no_read, discard_no_read, flush_place, discard_place}
 use Rattle.pipeline_laws.proofs.Matches.{Matches, IsTold, IsLong, IsDone, done_at, note, told_elsewhere, read_elsewhere, asked_here, set_asked}
-use Rattle.pipeline_laws.proofs.Order.{IsOrdered}
 use Rattle.pipeline_laws.proofs.Clear.{in_order}
 
 -- these lines can stand at a plain disk, and the disk after them matches
@@ -71,14 +70,14 @@ same_asked : (p : Pipeline) (d : Disk) (content : List (List ℕ)) (k n m : ℕ)
 same_asked p d content k n m x words h at = h.requests ∙ sym (set_same asked p.requests k x (record { submission = x.submission; station = Working m; words = words }) at.here (ap (asked_at x.submission) (sym at.there)))
 
 pub fills : (p : Pipeline) (d : Disk) (content later : List (List ℕ)) (k : ℕ) (x : PipelineRequest) (n : ℕ) → IsAt p k x (Working n) → is_write x.submission ≡ true → n < places_of x.submission → IsClear p k x
-    → Changes (sector_of x.submission + n) 1 (Some (filling x.submission n)) content later → Matches p d content → IsOrdered p.requests p.ring.pushed p.ring.fetched → Leads (next p (Moves k x (Fills n))) d (move_lines k (Fills n)) later
-fills p d content later k x n at submission more clear changes m o = record {
+    → Changes (sector_of x.submission + n) 1 (Some (filling x.submission n)) content later → Matches p d content → Leads (next p (Moves k x (Fills n))) d (move_lines k (Fills n)) later
+fills p d content later k x n at submission more clear changes m = record {
   disk = served d (place (k + 1) n) (one_sector x.submission n (Some (filling x.submission n)));
   run = one_line d _ (lines.Effect (k + 1) n) (rw (
     asked_here p d content k x (Working n) m at,
     submission,
     may_serve_at d.done (k + 1) n x.submission (job_done p d content k n x m at) more,
-    in_order p d content k n x (opened x.submission) m o at refl clear,
+    in_order p d content k x (opened x.submission) m refl clear,
   ) refl);
   matches = record {
     requests = same_asked p d content k n (n + 1) x x.words m at;
@@ -110,14 +109,14 @@ from_start sector count words content later changes =
     rw e changes
 
 pub trims : (p : Pipeline) (d : Disk) (content later : List (List ℕ)) (k : ℕ) (x : PipelineRequest) → IsAt p k x (Working 0) → is_discard x.submission ≡ true → IsClear p k x
-    → Changes (sector_of x.submission) (count_of x.submission) (Some (filling x.submission 0)) content later → Matches p d content → IsOrdered p.requests p.ring.pushed p.ring.fetched → Leads (next p (Moves k x Trims)) d (move_lines k Trims) later
-trims p d content later k x at submission clear changes m o = record {
+    → Changes (sector_of x.submission) (count_of x.submission) (Some (filling x.submission 0)) content later → Matches p d content → Leads (next p (Moves k x Trims)) d (move_lines k Trims) later
+trims p d content later k x at submission clear changes m = record {
   disk = served d (place (k + 1) 0) (all_sectors x.submission (Some (filling x.submission 0)));
   run = one_line d _ (lines.Trimmed (k + 1)) (rw (
     asked_here p d content k x (Working 0) m at,
     submission,
     may_serve_at d.done (k + 1) 0 x.submission (job_done p d content k 0 x m at) (discard_place x.submission submission),
-    in_order p d content k 0 x (opened x.submission) m o at refl clear,
+    in_order p d content k x (opened x.submission) m refl clear,
   ) refl);
   matches = record {
     requests = same_asked p d content k 0 1 x x.words m at;
@@ -140,13 +139,13 @@ fault_order true clear h = h refl
 fault_order false clear h = refl
 
 pub fails : (p : Pipeline) (d : Disk) (content later : List (List ℕ)) (k : ℕ) (x : PipelineRequest) (n : ℕ) → IsAt p k x (Working n) → n < places_of x.submission → (is_ordered x.submission ≡ true → IsClear p k x)
-    → Changes (lost_sector x.submission n) (lost_count x.submission) None content later → Matches p d content → IsOrdered p.requests p.ring.pushed p.ring.fetched → Leads (next p (Moves k x (Fails n))) d (move_lines k (Fails n)) later
-fails p d content later k x n at more clear changes m o = record {
+    → Changes (lost_sector x.submission n) (lost_count x.submission) None content later → Matches p d content → Leads (next p (Moves k x (Fails n))) d (move_lines k (Fails n)) later
+fails p d content later k x n at more clear changes m = record {
   disk = record d { requests = with_request d.requests (k + 1) (asked_at x.submission Failed); written = lost_of d.written x.submission n };
   run = one_line d _ (lines.Fault (k + 1) n) (rw (
     asked_here p d content k x (Working n) m at,
     may_serve_at d.done (k + 1) n x.submission (job_done p d content k n x m at) more,
-    fault_order (is_ordered x.submission) (is_in_order d (k + 1) (opened x.submission)) (λ e. in_order p d content k n x (opened x.submission) m o at refl (clear e)),
+    fault_order (is_ordered x.submission) (is_in_order d (k + 1) (opened x.submission)) (λ e. in_order p d content k x (opened x.submission) m refl (clear e)),
   ) refl);
   matches = record {
     requests = set_asked d.requests p.requests k (moved x (Fails n)) m.requests;

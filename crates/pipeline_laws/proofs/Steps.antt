@@ -24,15 +24,13 @@ use Rattle.pipeline_laws.proofs.Lists.{Each, each_kept, each_more, each_map, map
 use Rattle.pipeline_laws.proofs.Done.{done_none}
 use Rattle.pipeline_laws.proofs.DiskDoes.{lost_changes}
 use Rattle.pipeline_laws.proofs.Matches.{Matches, IsTold, IsLong, IsDone, done_at, is_unserved}
-use Rattle.pipeline_laws.proofs.Order.{IsOrdered, move_ordered, submit_ordered, resume_ordered, start_ordered}
 use Rattle.pipeline_laws.proofs.Range.{IsOnDisk, AreOnDisk, accepted_on_disk, fill_changes, trim_changes, move_sized}
 use Rattle.pipeline_laws.proofs.Serving.{Leads, one_line, fills, flushes, trims, fails, reads}
 use Rattle.pipeline_laws.proofs.Moving.{goes_on, replies, answers, tells}
 
--- the plain disk has what the pipeline has, the ring is in order, and the sectors are there
+-- the plain disk has what the pipeline has, and the sectors are there
 pub record Stands (p : Pipeline) (d : Disk) (content : List (List ℕ)) : Type 0 where
   pub matches : Matches p d content
-  pub ordered : IsOrdered p.requests p.ring.pushed p.ring.fetched
   pub on_disk : AreOnDisk p.options.sectors p.requests
   pub sized : length content ≡ p.options.sectors
 
@@ -55,11 +53,11 @@ move_leads p d content later k x move at may does s = by_move move at may does
     by_move Pushes a may e = silent Pushes refl may a e
     by_move BeginsFetch a may e = silent BeginsFetch refl may a e
     by_move Fetches a may e = silent Fetches refl may a e
-    by_move (Fills index) a may e = fills p d content later k x index a may.0 may.1 may.2 (fill_changes x.submission index content later may.0 may.1 on_disk e) s.matches s.ordered
+    by_move (Fills index) a may e = fills p d content later k x index a may.0 may.1 may.2 (fill_changes x.submission index content later may.0 may.1 on_disk e) s.matches
     by_move (Reads index words) a may e = same (Reads index words) (reads p d content k x index words a may.0 may.1 e.0 s.matches) e.1
     by_move Flushes a may e = same Flushes (flushes p d content k x a may s.matches) e
-    by_move Trims a may e = trims p d content later k x a may.0 may.1 (trim_changes x.submission content later may.0 on_disk e) s.matches s.ordered
-    by_move (Fails index) a may e = fails p d content later k x index a may.0 may.1 (lost_changes _ _ content later e) s.matches s.ordered
+    by_move Trims a may e = trims p d content later k x a may.0 may.1 (trim_changes x.submission content later may.0 on_disk e) s.matches
+    by_move (Fails index) a may e = fails p d content later k x index a may.0 may.1 (lost_changes _ _ content later e) s.matches
     by_move (Ends status) a may e = silent (Ends status) refl may a e
     by_move (BeginsResponse status) a may e = silent (BeginsResponse status) refl may a e
     by_move (Replies status) a may e = same (Replies status) (replies p d content k x status a s.matches) e
@@ -82,7 +80,6 @@ move_goes p d content later k x move at may does s =
       run = leads.run;
       stands = record {
         matches = leads.matches;
-        ordered = move_ordered p k x move at may s.ordered;
         on_disk = each_kept (λ j (y : PipelineRequest). IsOnDisk p.options.sectors y.submission) p.requests k (moved x move) (s.on_disk k x at.here) s.on_disk;
         sized = move_sized x.submission move content later does ∙ s.sized;
       };
@@ -105,7 +102,6 @@ submit_goes p d content submission accepted s =
           later = λ id above. m.later id (omega arith);
           known = m.known;
         };
-        ordered = submit_ordered p.requests p.ring.pushed p.ring.fetched submission s.ordered;
         on_disk = each_more (λ j (y : PipelineRequest). IsOnDisk p.options.sectors y.submission) (λ j (y : PipelineRequest). IsOnDisk p.options.sectors y.submission) p.requests (submitted submission) (accepted_on_disk (sight_of p) p.options (map asked p.requests) submission accepted) (λ j y e h. h) s.on_disk;
         sized = s.sized;
       };
@@ -145,7 +141,6 @@ resume_goes p d content s =
           later = λ id above. done_none id;
           known = m.known;
         };
-        ordered = resume_ordered p.requests p.ring.pushed p.ring.fetched s.ordered;
         on_disk = each_map again (λ j (y : PipelineRequest). IsOnDisk p.options.sectors y.submission) (λ j (y : PipelineRequest). IsOnDisk p.options.sectors y.submission) p.requests (λ j y h. h) s.on_disk;
         sized = s.sized;
       };
@@ -181,7 +176,7 @@ shows p front d content line one s =
     record {
       disk = d;
       run = one_line d d line one;
-      stands = record { matches = record { requests = m.requests; each = m.each; later = m.later; known = m.known }; ordered = s.ordered; on_disk = s.on_disk; sized = s.sized };
+      stands = record { matches = record { requests = m.requests; each = m.each; later = m.later; known = m.known }; on_disk = s.on_disk; sized = s.sized };
     }
 
 -- each step
@@ -207,7 +202,6 @@ step_goes p d content later s may does stands = by_step s may does
 pub start_stands : (options : Options) (first content : List (List ℕ)) → BeginsWithin first content → length content ≡ options.sectors → Stands (pipeline_of options) (disk_of first) content
 start_stands options first content within sized = record {
   matches = record { requests = refl; each = λ k x e. absurd (none-some x e); later = λ id above. done_none id; known = within };
-  ordered = start_ordered;
   on_disk = λ k x e. absurd (none-some x e);
   sized = sized;
 }

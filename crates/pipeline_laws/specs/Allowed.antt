@@ -10,9 +10,8 @@ use Rattle.schedule_text.specs.declared.line.Line.TheVariants as lines
 use Rattle.plain_disk.specs.declared.sight.Sight.{Sight}
 use Rattle.plain_disk.specs.Request.{places_of, is_read, is_write, is_flush, is_discard, is_barrier, is_ordered}
 use Rattle.plain_disk.specs.Refusal.{refusal_by}
-use Rattle.pipeline_laws.specs.Station.{Station, Waiting, Issuing, Working, PipelineRequest, is_finished, asked}
+use Rattle.pipeline_laws.specs.Station.{Station, Waiting, Issuing, Pushed, Fetching, Working, PipelineRequest, is_finished, asked}
 use Rattle.pipeline_laws.specs.Move.{Move, BeginsEntry, Pushes, BeginsFetch, Fetches, Fills, Reads, Flushes, Trims, Fails, Ends, BeginsResponse, Replies, Takes, Answers, Tells, station_before}
-use Rattle.pipeline_laws.specs.Ring.{IsNextEntry, IsNextResponse}
 use Rattle.pipeline_laws.specs.Pipeline.{Pipeline, Step, Submits, Refuses, Moves, Connects, StartsToClose, Closes, Leaves, Resumes, Rests, Shows, next}
 
 -- this request is there
@@ -30,27 +29,31 @@ is_unissued station = false
 pub record IsFirst (p : Pipeline) (k : ℕ) : Type 0 where
   pub none : (j : ℕ) (y : PipelineRequest) → j < k → slice_get p.requests j ≡ Some y → is_unissued y.station ≡ false
 
--- a submission that has places left
-abbrev pub is_working : Submission → Station → Bool
-is_working submission (Working moved) = not (moved == places_of submission)
-is_working submission station = false
+-- the back has no copy of its entry in this epoch
+abbrev pub is_unfetched : Station → Bool
+is_unfetched Pushed = true
+is_unfetched Fetching = true
+is_unfetched station = is_unissued station
+
+-- a submission that has places left: all of them, where it isn't fetched
+abbrev pub has_places : Submission → Station → Bool
+has_places submission (Working moved) = not (moved == places_of submission)
+has_places submission station = is_unfetched station
 
 -- a write, barrier or discard that has places left, where it or the one after it is a barrier (BLKIF_OP_WRITE_BARRIER)
 abbrev pub is_in_way : Bool → PipelineRequest → Bool
-is_in_way barrier y = is_ordered y.submission && (barrier || is_barrier y.submission) && is_working y.submission y.station
+is_in_way barrier y = is_ordered y.submission && (barrier || is_barrier y.submission) && has_places y.submission y.station
 
--- no submission that was fetched before this one is in its way
+-- no submission of a lower number is in its way
 pub record IsClear (p : Pipeline) (k : ℕ) (x : PipelineRequest) : Type 0 where
-  pub index : ℕ
-  pub entry : slice_get p.ring.pushed index ≡ Some k
-  pub clear : (i j : ℕ) (y : PipelineRequest) → i < index → slice_get p.ring.pushed i ≡ Some j → slice_get p.requests j ≡ Some y → is_in_way (is_barrier x.submission) y ≡ false
+  pub clear : (j : ℕ) (y : PipelineRequest) → j < k → slice_get p.requests j ≡ Some y → is_in_way (is_barrier x.submission) y ≡ false
 
 -- what a move needs besides its station
 abbrev pub May : Pipeline → ℕ → PipelineRequest → Move → Type 0
 May p k x BeginsEntry = Unit {0}
 May p k x Pushes = IsFirst p k
-May p k x BeginsFetch = IsNextEntry p.ring k
-May p k x Fetches = IsNextEntry p.ring k
+May p k x BeginsFetch = Unit {0}
+May p k x Fetches = Unit {0}
 May p k x (Fills index) = (is_write x.submission ≡ true) × (index < places_of x.submission) × IsClear p k x
 May p k x (Reads index words) = (is_read x.submission ≡ true) × (index < places_of x.submission)
 May p k x Flushes = is_flush x.submission ≡ true
@@ -60,7 +63,7 @@ May p k x (Ends Unsupported) = ⊥
 May p k x (Ends status) = Unit {0}
 May p k x (BeginsResponse status) = Unit {0}
 May p k x (Replies status) = Unit {0}
-May p k x (Takes status) = IsNextResponse p.ring k
+May p k x (Takes status) = Unit {0}
 May p k x (Answers status) = Unit {0}
 May p k x (Tells index words) = slice_get x.words index ≡ Some words
 

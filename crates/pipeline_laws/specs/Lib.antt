@@ -1,6 +1,5 @@
 pub mod Station
 pub mod Move
-pub mod Ring
 pub mod Pipeline
 pub mod Allowed
 pub mod Disk
@@ -11,5 +10,4 @@ pub mod Answered
 pub mod Unbroken
 pub mod States
 pub mod Samples
-pub mod Queue
 pub mod Recorded

@@ -9,7 +9,6 @@ use Rattle.schedule_text.specs.declared.line.Line.{Line}
 use Rattle.schedule_text.specs.declared.line.Line.TheVariants as lines
 use Rattle.pipeline_laws.specs.Station.{Station, Waiting, Telling, Finished, PipelineRequest, submitted}
 use Rattle.pipeline_laws.specs.Move.{Move, moved, move_lines}
-use Rattle.pipeline_laws.specs.Ring.{Ring, empty_ring, ring_after}
 
 -- whether the front is connected in this epoch, whether it began to close, and whether it is closed (`io/xenbus.h`)
 pub record Front : Type 0 where
@@ -17,15 +16,14 @@ pub record Front : Type 0 where
   pub closing : Bool
   pub closed : Bool
 
--- the options of the run, the front's state, the requests, number 1 first, and the ring of this epoch
+-- the options of the run, the front's state, and the requests, number 1 first
 pub record Pipeline : Type 0 where
   pub options : Options
   pub front : Front
   pub requests : List PipelineRequest
-  pub ring : Ring
 
 abbrev pub pipeline_of : Options → Pipeline
-pipeline_of options = record { options = options; front = record { connected = false; closing = false; closed = false }; requests = []; ring = empty_ring }
+pipeline_of options = record { options = options; front = record { connected = false; closing = false; closed = false }; requests = [] }
 
 pub data Step : Type 0 where
   -- a submission is accepted, or refused
@@ -57,12 +55,12 @@ again x = record x { station = station_again x.station }
 abbrev pub next : Pipeline → Step → Pipeline
 next p (Submits submission) = record p { requests = p.requests ++ submitted submission ∷ [] }
 next p (Refuses submission refusal) = p
-next p (Moves k x move) = record p { requests = slice_set p.requests k (moved x move); ring = ring_after p.ring k move }
+next p (Moves k x move) = record p { requests = slice_set p.requests k (moved x move) }
 next p Connects = record p { front = record p.front { connected = true } }
 next p StartsToClose = record p { front = record p.front { closing = true } }
 next p Closes = record p { front = record p.front { closed = true } }
 next p (Leaves why) = p
-next p Resumes = record p { front = record p.front { connected = false }; requests = map again p.requests; ring = empty_ring }
+next p Resumes = record p { front = record p.front { connected = false }; requests = map again p.requests }
 next p Rests = p
 next p (Shows line) = p
 

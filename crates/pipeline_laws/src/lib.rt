@@ -20,7 +20,7 @@ ghost use Rattle.plain_disk.specs.Request.{filling};
 ghost use Rattle.plain_disk.specs.Disk.{Disk, disk_of};
 ghost use Rattle.plain_disk.specs.Step.{after};
 ghost use Rattle.pipeline_laws.specs.Station.{PipelineRequest};
-ghost use Rattle.pipeline_laws.specs.Move.{Pushes, BeginsFetch, Fills, Ends, Answers};
+ghost use Rattle.pipeline_laws.specs.Move.{Pushes, Fills, Ends, Answers};
 ghost use Rattle.pipeline_laws.specs.Pipeline.{Step, Submits, Refuses, Moves, Connects, StartsToClose, Closes, Rests, pipeline_of, after_steps, lines_of};
 ghost use Rattle.pipeline_laws.specs.Allowed.{IsAllowed, AreAllowed};
 ghost use Rattle.pipeline_laws.specs.Disk.{DiskRuns};
@@ -31,8 +31,7 @@ ghost use Rattle.pipeline_laws.specs.Unbroken.{IsUnbroken};
 ghost use Rattle.pipeline_laws.specs.States.{AreStates};
 ghost use Rattle.pipeline_laws.specs.Recorded.{IsKeptRun};
 ghost use Rattle.pipeline_laws.specs.Effects.{LinesDo};
-ghost use Rattle.pipeline_laws.specs.Queue.{IsQueue};
-ghost use Rattle.pipeline_laws.specs.Samples.{two_sectors, write, barrier, other_write, long_write, past_end, barrier_steps, barrier_lines, order_steps, order_lines, read_steps, read_lines, fault_steps, fault_lines, second_begun, two_entries, two_jobs, half_done, two_reads};
+ghost use Rattle.pipeline_laws.specs.Samples.{two_sectors, write, barrier, other_write, long_write, past_end, barrier_steps, barrier_lines, order_steps, order_lines, read_steps, read_lines, fault_steps, fault_lines, second_begun, second_fetched, two_jobs, half_done, two_reads};
 
 /// The report of the pipeline is a run of the plain disk, from what the disk held to what its calls
 /// left; where the disk doesn't expose it, from sectors that nobody knows. So it is from any sectors that
@@ -85,12 +84,6 @@ pub fn a_recorder_keeps_the_report_of_a_run()
     ensures { (r : PipelineRun) (detail : Detail) → IsKeptRun detail r }
 {}
 
-/// Its ring is a queue: the four indices count the requests between them, the ring is never overrun,
-/// and the entries and responses that are due name requests that wait for it.
-pub fn the_ring_is_a_queue()
-    ensures { (options : Options) (steps : List Step) → AreAllowed steps (pipeline_of options) → IsQueue (after_steps steps (pipeline_of options)) }
-{}
-
 /// A write is done before a suspend and again after it, before a barrier that follows it.
 pub fn a_barrier_waits_for_a_write()
     ensures allowed { AreAllowed barrier_steps (pipeline_of two_sectors) }
@@ -119,14 +112,13 @@ pub fn a_fault_is_answered_error()
     ensures shown { lines_of fault_steps (pipeline_of two_sectors) ≡ fault_lines }
 {}
 
-/// What the pipeline doesn't allow: a barrier that works before an earlier write is done; an entry
-/// pushed before one of a lower number, or fetched out of turn; a submission that ends `ok` with a sector
-/// left; a second answer; `quiet`, or a closed front, before all is told; a refusal that no rule
+/// What the pipeline doesn't allow: a barrier that works before an earlier write is done, or fetched; an
+/// entry pushed before one of a lower number; a submission that ends `ok` with a sector left; a second answer; `quiet`, or a closed front, before all is told; a refusal that no rule
 /// gives, and a request past the end of the disk that is accepted.
 pub fn a_wrong_step_is_no_step_of_the_pipeline()
     ensures barrier { (x : PipelineRequest) → IsAllowed (after_steps two_jobs (pipeline_of two_sectors)) (Moves 1 x (Fills 0)) → ⊥ }
     ensures push { (x : PipelineRequest) → IsAllowed (after_steps second_begun (pipeline_of two_sectors)) (Moves 1 x Pushes) → ⊥ }
-    ensures fetch { (x : PipelineRequest) → IsAllowed (after_steps two_entries (pipeline_of two_sectors)) (Moves 1 x BeginsFetch) → ⊥ }
+    ensures fetch { (x : PipelineRequest) → IsAllowed (after_steps second_fetched (pipeline_of two_sectors)) (Moves 1 x (Fills 0)) → ⊥ }
     ensures end { (x : PipelineRequest) → IsAllowed (after_steps half_done (pipeline_of two_sectors)) (Moves 0 x (Ends Okay)) → ⊥ }
     ensures again { (x : PipelineRequest) (status : Status) → IsAllowed (after_steps order_steps (pipeline_of two_sectors)) (Moves 0 x (Answers status)) → ⊥ }
     ensures quiet { IsAllowed (after_steps two_jobs (pipeline_of two_sectors)) Rests → ⊥ }
