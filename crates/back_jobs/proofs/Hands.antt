@@ -61,7 +61,7 @@ alone m = record { front = []; rest = []; without = refl; with_it = refl }
 abbrev pub hand_at : JobStage → List Mapping
 hand_at s = option_to_list (mapping_at s)
 
-hand_sector : (writes : Bool) (m : Mapping) → hand_at (sector_stage writes m) ≡ m ∷ []
+pub hand_sector : (writes : Bool) (m : Mapping) → hand_at (sector_stage writes m) ≡ m ∷ []
 hand_sector true m = refl
 hand_sector false m = refl
 

@@ -11,4 +11,6 @@ pub mod Listed
 pub mod Telling
 pub mod Spare
 pub mod Settling
+pub mod Bounds
+pub mod Entire
 pub mod Plain

@@ -7,7 +7,7 @@ use Rattle.std.proofs.lemmas.Bool.{false≢true}
 use Rattle.std.proofs.lemmas.Option.{none-some, same_Some, get_or_from_slice_get, slice_get_within}
 use Rattle.std.proofs.lemmas.List.{append-nil}
 use Rattle.std.proofs.lemmas.List.Concat.{flat_map-append}
-use Rattle.std.proofs.lemmas.List.Elements.{All-tail, All-head, All-cons, All-take, All-drop, All-append, All-set, All-push, All-get_or}
+use Rattle.std.proofs.lemmas.List.Elements.{All-nil, All-tail, All-head, All-cons, All-take, All-drop, All-append, All-set, All-push, All-get_or}
 use Rattle.std.proofs.lemmas.List.Sorted.{IsPermutation-refl, IsPermutation-trans, IsPermutation-sym, IsPermutation-append_left, IsPermutation-append_right, IsPermutation-append_comm, IsPermutation-middle, IsPermutation-cons}
 use Rattle.blk_base.specs.declared.parts.Mapping.{Mapping}
 use Rattle.blk_base.specs.declared.parts.Mode.TheVariants.{ReadWrite}
@@ -18,7 +18,7 @@ use Rattle.blk_base.specs.declared.ask.BackAnswer.TheVariants as answer
 use Rattle.blk_layout.specs.declared.segment.Segment.{Segment}
 use Rattle.blk_layout.specs.declared.request.RawRequest.{RawRequest}
 use Rattle.segment_list.specs.declared.verdict.Verdict.{Verdict}
-use Rattle.persist_grants.specs.KeptMappings.{KeptMappings, may_keep, mapping_for, mappings_of, without, least_recent, without_least_recent}
+use Rattle.persist_grants.specs.KeptMappings.{KeptMappings, none_kept, may_keep, mapping_for, mappings_of, without, least_recent, without_least_recent}
 use Rattle.persist_grants.specs.PutBack.{handed_out, makes_room, with_mapping, answer_of}
 use Rattle.persist_grants.specs.declared.kept.PutBack.TheVariants as PutBack
 use Rattle.back_jobs.specs.declared.stage.JobStage.{JobStage}
@@ -102,7 +102,7 @@ settled_cap_at (stage.Unmap m) kept t = returned_cap (handed_out kept m.gref m) 
 settled_cap_at (stage.Abort m) kept t = with_cap kept m.gref m
 settled_cap_at s kept t = refl
 
-settled_cap : (kept : KeptMappings) (t : Work) → (settled kept t).kept.cap ≡ kept.cap
+pub settled_cap : (kept : KeptMappings) (t : Work) → (settled kept t).kept.cap ≡ kept.cap
 settled_cap kept t = settled_cap_at t.stage kept t
 
 -- a mapping that is taken, or handed out, was made for writing too
@@ -291,7 +291,7 @@ one_less m fewer more kept all h p =
 same_hands : (before mid kept all : List Mapping) → mid ≡ before → IsPermutation (mid ++ kept) all → IsPermutation (before ++ kept) all
 same_hands before mid kept all e p = subst (λ (l : List Mapping). IsPermutation (l ++ kept) all) e p
 
-keep_after : (a : BackAsk) (given : BackAnswer) (before mid kept all : List Mapping) → HandsAfter a given before mid → IsPermutation (mid ++ kept) all → HandsKeep a given (before ++ kept) all
+pub keep_after : (a : BackAsk) (given : BackAnswer) (before mid kept all : List Mapping) → HandsAfter a given before mid → IsPermutation (mid ++ kept) all → HandsKeep a given (before ++ kept) all
 keep_after (ask.Map gref mode) (answer.Mapped m) before mid kept all h p = one_more m before mid kept all h p
 keep_after (ask.Unmap m) answer.Done before mid kept all h p = one_less m mid before kept all h p
 keep_after a given before mid kept all h p = same_hands before mid kept all h p
@@ -359,6 +359,11 @@ removed_keeping kept works place all = record {
 -- jobs are abandoned, and a mapping that is kept is given up
 pub given_keeping : (kept : KeptMappings) (works : List Work) → IsKeeping kept works → IsKeeping kept (after_mapping works)
 given_keeping kept works all = record { keepable = all.keepable; writable = λ may. after_writable works (all.writable may) }
+
+-- no mapping is kept, and no job is held
+pub none_keeping : (cap : ℕ) (works : List Work) → length works ≡ 0 → IsKeeping (none_kept cap) works
+none_keeping cap [] none = record { keepable = All-nil IsKeepable; writable = λ may. All-nil (λ (t : Work). IsWritableAt t.stage) }
+none_keeping cap (t ∷ works) none = absurd (omega arith)
 
 pub drained_keeping : (kept : KeptMappings) (works : List Work) → IsKeeping kept works → IsKeeping (without_least_recent kept) works
 drained_keeping kept works all = record { keepable = drained_keepable kept all.keepable; writable = all.writable }

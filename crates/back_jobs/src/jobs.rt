@@ -118,6 +118,18 @@ impl Jobs {
         self.info
     }
 
+    /// From here on at most `cap` mappings are kept, 0 to 1000; 0 where grants aren't persistent. No job is
+    /// held, and no mapping is kept. It takes no memory.
+    pub fn keep_at_most(&mut self, cap: u32)
+        requires range { cap ≤ 1000 }
+        requires none_held { length self.old.works ≡ 0 }
+        requires none_kept { length self.old.kept.entries ≡ 0 }
+        ensures { self.new ≡ record self.old { kept = none_kept cap } }
+    {
+        *self.kept = Kept::new(cap);
+        self.keeps = cap != 0;
+    }
+
     // Where the job of a number stands.
     #[inline(always)]
     fn place(&self, number: u64) -> Option<usize>

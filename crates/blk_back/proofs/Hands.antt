@@ -20,6 +20,7 @@ use Rattle.back_jobs.specs.Hands.{hands_in, Names, HasOneMore, HandsAfter}
 use Rattle.back_jobs.proofs.Hands.{framed, named_among, told_hands, done_hands, started_hands, after_hands, few_in_hands}
 use Rattle.back_jobs.proofs.Order.{next_above}
 use Rattle.segment_list.specs.declared.verdict.DiskInfo.{DiskInfo}
+use Rattle.persist_grants.specs.KeptMappings.{KeptMappings}
 use Rattle.blk_base.specs.declared.halt.Halt.{Halt}
 use Rattle.blk_base.specs.declared.halt.Halt.TheVariants as halt
 use Rattle.blk_back.specs.declared.stage.Reply.{Reply}
@@ -44,7 +45,7 @@ either_stage : (b : Bool) (x y : BackStage) (v : View) (l : List Mapping) → ha
 either_stage true x y v l p q = p
 either_stage false x y v l p q = q
 
-given_apart : (m : Option Mapping) (rest pages : List Mapping) → aborted (unmapping_next m) ++ (rest ++ pages) ≡ (option_to_list m ++ rest) ++ pages
+pub given_apart : (m : Option Mapping) (rest pages : List Mapping) → aborted (unmapping_next m) ++ (rest ++ pages) ≡ (option_to_list m ++ rest) ++ pages
 given_apart None rest pages = refl
 given_apart (Some m) rest pages = refl
 
@@ -114,7 +115,7 @@ mapped_hands m v = either_stage (nat_lt (length v.pages + 1) (length v.grefs)) s
 came : (m : Mapping) (before after more : List Mapping) → after ≡ more → HasOneMore m before more → HasOneMore m before after
 came m before after more same h = rw same h
 
-hands_after_at : (s : BackStage) (v : View) (given : BackAnswer) → v.stage ≡ s → IsAnswer (ask_at s v) given → HandsAfter (ask_at s v) given (hands_at s v) (hands_of (step_at s v given))
+pub hands_after_at : (s : BackStage) (v : View) (given : BackAnswer) → v.stage ≡ s → IsAnswer (ask_at s v) given → HandsAfter (ask_at s v) given (hands_at s v) (hands_of (step_at s v given))
 hands_after_at stage.InitWait v given here h = ap (λ (s : BackStage). hands_at s v) here
 hands_after_at stage.MapRing v (answer.Mapped m) here h = came m (connected v) (hands_of (mapped m v)) _ (mapped_hands m v) (page_more m (hands_in v.jobs.works) v.pages)
 hands_after_at stage.MapRing v (answer.MapRefused status) here h = ap (λ (l : List Mapping). l ++ connected v) (none_given v.pages)
@@ -251,7 +252,7 @@ names_of v sound within = names_at v.stage v sound.mapped sound.writable (fetche
 pub job_names : (v : View) (a : BackAsk) → Names (hands_in v.jobs.works) a → Names (hands_of v) a
 job_names v a names = named_among a (aborted v.stage) v.pages (hands_in v.jobs.works) names
 
-few_aborted : (s : BackStage) → length (aborted s) ≤ 1
+pub few_aborted : (s : BackStage) → length (aborted s) ≤ 1
 few_aborted (stage.Abort m) = omega arith
 few_aborted s = omega arith
 
@@ -261,49 +262,72 @@ few_hands v sound =
     let given = few_aborted v.stage in let pages = sound.few_pages in let few = sound.few in let hands = few_in_hands v.jobs.works in
     rw (length-append (aborted v.stage) (hands_in v.jobs.works ++ v.pages), length-append (hands_in v.jobs.works) v.pages) (omega arith)
 
-either_info : (b : Bool) (x y : View) (info : DiskInfo) → x.jobs.info ≡ info → y.jobs.info ≡ info → (if b then x else y).jobs.info ≡ info
-either_info true x y info p q = p
-either_info false x y info p q = q
+-- the disk as the back knows it, and what is kept
+abbrev Lasting : Type 0
+Lasting = DiskInfo × KeptMappings
 
-looked_info : (v : View) (word : ℕ) (otherwise : View) → otherwise.jobs.info ≡ v.jobs.info → (looked v word otherwise).jobs.info ≡ v.jobs.info
-looked_info v word otherwise h =
-    either_info (overruns v.ring.indices word) (overrun v word) (if word == v.ring.indices.cons then otherwise else record v { ring = record v.ring { seen = word }; stage = stage.Loop }) v.jobs.info refl
-    (either_info (word == v.ring.indices.cons) otherwise (record v { ring = record v.ring { seen = word }; stage = stage.Loop }) v.jobs.info h refl)
+abbrev lasting : View → Lasting
+lasting v = (v.jobs.info, v.jobs.kept)
 
-loop_info : (v : View) (r : Option Reply) (given : BackAnswer) → (loop_step v r given).jobs.info ≡ v.jobs.info
-loop_info v (Some r) given = refl
-loop_info v None (answer.Word word) =
-    either_info (requests_of v.ring.indices v.ring.seen == 0) (looked v word (record v { ring = record v.ring { seen = word }; stage = stage.StoreEvent })) (record v { ring = record v.ring { entry = word ∷ [] }; stage = stage.Fetch 1 }) v.jobs.info
-    (looked_info v word (record v { ring = record v.ring { seen = word }; stage = stage.StoreEvent }) refl)
+either_lasting : (b : Bool) (x y : View) (l : Lasting) → lasting x ≡ l → lasting y ≡ l → lasting (if b then x else y) ≡ l
+either_lasting true x y l p q = p
+either_lasting false x y l p q = q
+
+looked_lasting : (v : View) (word : ℕ) (otherwise : View) → lasting otherwise ≡ lasting v → lasting (looked v word otherwise) ≡ lasting v
+looked_lasting v word otherwise h =
+    either_lasting (overruns v.ring.indices word) (overrun v word) (if word == v.ring.indices.cons then otherwise else record v { ring = record v.ring { seen = word }; stage = stage.Loop }) (lasting v) refl
+    (either_lasting (word == v.ring.indices.cons) otherwise (record v { ring = record v.ring { seen = word }; stage = stage.Loop }) (lasting v) h refl)
+
+loop_lasting : (v : View) (r : Option Reply) (given : BackAnswer) → lasting (loop_step v r given) ≡ lasting v
+loop_lasting v (Some r) given = refl
+loop_lasting v None (answer.Word word) =
+    either_lasting (requests_of v.ring.indices v.ring.seen == 0) (looked v word (record v { ring = record v.ring { seen = word }; stage = stage.StoreEvent })) (record v { ring = record v.ring { entry = word ∷ [] }; stage = stage.Fetch 1 }) (lasting v)
+    (looked_lasting v word (record v { ring = record v.ring { seen = word }; stage = stage.StoreEvent }) refl)
     refl
-loop_info v None given = refl
+loop_lasting v None given = refl
 
-step_info_at : (s : BackStage) (v : View) (given : BackAnswer) → (step_at s v given).jobs.info ≡ v.jobs.info
-step_info_at stage.InitWait v given = refl
-step_info_at stage.MapRing v (answer.Mapped m) = refl
-step_info_at stage.MapRing v (answer.MapRefused status) = refl
-step_info_at stage.Bind v answer.Done = refl
-step_info_at stage.Bind v answer.BindRefused = refl
-step_info_at stage.Loop v given = loop_info v (next_reply v) given
-step_info_at (stage.Fetch k) v (answer.Word word) = either_info (k + 1 == entry_words_of v.shape.abi) (fetched v (v.ring.entry ++ word ∷ [])) (record v { ring = record v.ring { entry = v.ring.entry ++ word ∷ [] }; stage = stage.Fetch (k + 1) }) v.jobs.info refl refl
-step_info_at (stage.ReplyHigh r) v given = refl
-step_info_at (stage.ReplyLast r) v given = refl
-step_info_at (stage.Producer r) v given = refl
-step_info_at (stage.ProducerFence old) v given = refl
-step_info_at (stage.ResponseEvent old) v (answer.Word event) = refl
-step_info_at stage.Send v given = refl
-step_info_at stage.StoreEvent v given = refl
-step_info_at stage.EventFence v given = refl
-step_info_at stage.LookAgain v (answer.Word word) = looked_info v word (record v { ring = record v.ring { seen = word; asleep = true }; stage = stage.Loop }) refl
-step_info_at (stage.Abort m) v given = refl
-step_info_at stage.UnmapRing v given = refl
-step_info_at stage.ClosePort v given = refl
-step_info_at stage.UnmapUnbound v given = refl
-step_info_at s v given = refl
+step_lasting_at : (s : BackStage) (v : View) (given : BackAnswer) → lasting (step_at s v given) ≡ lasting v
+step_lasting_at stage.InitWait v given = refl
+step_lasting_at stage.MapRing v (answer.Mapped m) = refl
+step_lasting_at stage.MapRing v (answer.MapRefused status) = refl
+step_lasting_at stage.Bind v answer.Done = refl
+step_lasting_at stage.Bind v answer.BindRefused = refl
+step_lasting_at stage.Loop v given = loop_lasting v (next_reply v) given
+step_lasting_at (stage.Fetch k) v (answer.Word word) = either_lasting (k + 1 == entry_words_of v.shape.abi) (fetched v (v.ring.entry ++ word ∷ [])) (record v { ring = record v.ring { entry = v.ring.entry ++ word ∷ [] }; stage = stage.Fetch (k + 1) }) (lasting v) refl refl
+step_lasting_at (stage.ReplyHigh r) v given = refl
+step_lasting_at (stage.ReplyLast r) v given = refl
+step_lasting_at (stage.Producer r) v given = refl
+step_lasting_at (stage.ProducerFence old) v given = refl
+step_lasting_at (stage.ResponseEvent old) v (answer.Word event) = refl
+step_lasting_at stage.Send v given = refl
+step_lasting_at stage.StoreEvent v given = refl
+step_lasting_at stage.EventFence v given = refl
+step_lasting_at stage.LookAgain v (answer.Word word) = looked_lasting v word (record v { ring = record v.ring { seen = word; asleep = true }; stage = stage.Loop }) refl
+step_lasting_at (stage.Abort m) v given = refl
+step_lasting_at stage.UnmapRing v given = refl
+step_lasting_at stage.ClosePort v given = refl
+step_lasting_at stage.UnmapUnbound v given = refl
+step_lasting_at s v given = refl
 
 -- the disk stays as the back knows it, whatever it is told
 pub step_info : (v : View) (given : BackAnswer) → (step_of v given).jobs.info ≡ v.jobs.info
-step_info v given = step_info_at v.stage v given
+step_info v given = ap (λ (l : Lasting). l.0) (step_lasting_at v.stage v given)
+
+-- and a back that keeps no mapping keeps none after that
+pub step_kept_at : (s : BackStage) (v : View) (given : BackAnswer) → (step_at s v given).jobs.kept ≡ v.jobs.kept
+step_kept_at s v given = ap (λ (l : Lasting). l.1) (step_lasting_at s v given)
+
+pub halted_kept : (why : Halt) (v : View) → (halts why v).jobs.kept ≡ v.jobs.kept
+halted_kept why v = ap (λ (l : Lasting). l.1) (either_lasting (may_halt why) (halts_at v.stage why v) v (lasting v) (by_stage v.stage) refl)
+  where
+    by_stage : (s : BackStage) → lasting (halts_at s why v) ≡ lasting v
+    by_stage stage.InitWait = refl
+    by_stage stage.MapRing = refl
+    by_stage stage.Loop = refl
+    by_stage s = refl
+
+pub attached_kept : (shape : Shape) (grefs : List ℕ) (port : ℕ) (v : View) → (attaches shape grefs port v).jobs.kept ≡ v.jobs.kept
+attached_kept shape grefs port v = ap (λ (l : Lasting). l.1) (either_lasting (may_attach shape grefs v) (attached shape grefs port v) v (lasting v) refl refl)
 
 -- and whatever its jobs are told
 pub job_step_info : (v : View) (number : ℕ) (given : BackAnswer) → (job_step v number given).jobs.info ≡ v.jobs.info

@@ -2,3 +2,5 @@ pub mod Powers
 pub mod Slots
 pub mod Hands
 pub mod Plain
+pub mod Keeping
+pub mod Sound

@@ -2,6 +2,7 @@
 use Rattle.std.specs.Prelude.{List, [], ◌∷◌, ◌++◌}
 use Rattle.blk_base.specs.declared.parts.Mapping.{Mapping}
 use Rattle.back_jobs.specs.Hands.{hands_in}
+use Rattle.back_jobs.specs.Keeping.{all_hands}
 use Rattle.blk_back.specs.declared.stage.BackStage.{BackStage}
 use Rattle.blk_back.specs.declared.stage.BackStage.TheVariants as stage
 use Rattle.blk_back.specs.View.{View}
@@ -17,3 +18,10 @@ hands_at s v = aborted s ++ (hands_in v.jobs.works ++ v.pages)
 -- the one being unmapped, then those in the jobs' hands, then the ring's pages
 abbrev pub hands_of : View → List Mapping
 hands_of v = hands_at v.stage v
+
+-- with those that are kept for later requests
+abbrev pub all_hands_at : BackStage → View → List Mapping
+all_hands_at s v = aborted s ++ (all_hands v.jobs ++ v.pages)
+
+abbrev pub all_hands_of : View → List Mapping
+all_hands_of v = all_hands_at v.stage v

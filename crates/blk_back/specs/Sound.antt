@@ -6,7 +6,7 @@ use Rattle.blk_base.specs.declared.parts.Mode.TheVariants.{ReadWrite}
 use Rattle.ring_words.specs.Shape.{Shape, entries_of, entry_words_of}
 use Rattle.blk_back.specs.declared.stage.BackStage.{BackStage}
 use Rattle.blk_back.specs.declared.stage.BackStage.TheVariants as stage
-use Rattle.persist_grants.specs.KeptMappings.{none_kept}
+use Rattle.back_jobs.specs.Jobs.{HeldJobs}
 use Rattle.blk_back.specs.View.{View}
 
 -- a fetch has read as many words as it says, fewer than an entry has, and there is room for its job
@@ -41,6 +41,21 @@ IsMapped s order grefs pages = length pages ≡ 2 ^ order
 abbrev pub AreWritable : List Mapping → Type 0
 AreWritable pages = All (λ (m : Mapping). m.mode ≡ ReadWrite) pages
 
+-- no job is held, and no mapping is kept
+abbrev pub HasNothing : HeldJobs → Type 0
+HasNothing jobs = (length jobs.works ≡ 0) × (length jobs.kept.entries ≡ 0)
+
+-- so it is before the port is bound, and once all but the ring's pages are unmapped
+abbrev pub IsCleared : BackStage → HeldJobs → Type 0
+IsCleared stage.InitWait jobs = HasNothing jobs
+IsCleared stage.MapRing jobs = HasNothing jobs
+IsCleared stage.Bind jobs = HasNothing jobs
+IsCleared stage.UnmapRing jobs = HasNothing jobs
+IsCleared stage.ClosePort jobs = HasNothing jobs
+IsCleared stage.UnmapUnbound jobs = HasNothing jobs
+IsCleared stage.Halted jobs = HasNothing jobs
+IsCleared s jobs = Unit {0}
+
 pub record IsSound (v : View) : Type 0 where
   pub order : v.shape.order ≤ 4
   pub entries : v.ring.indices.entries ≡ entries_of v.shape.order
@@ -52,4 +67,6 @@ pub record IsSound (v : View) : Type 0 where
   pub writable : AreWritable v.pages
   pub few_pages : length v.pages ≤ 16
   pub few : length v.jobs.works ≤ entries_of 4
-  pub plain : v.jobs.kept ≡ none_kept 0
+  pub few_kept : length v.jobs.kept.entries ≤ v.jobs.kept.cap
+  pub cap : v.jobs.kept.cap ≤ 1000
+  pub cleared : IsCleared v.stage v.jobs

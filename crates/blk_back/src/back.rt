@@ -3,10 +3,10 @@ ghost use Rattle.std.specs.Prelude.{◌≡◌, ◌<◌, ◌≤◌, IfOk, IsOk, I
 ghost use Rattle.ring_words.specs.Shape.{entry_words_of};
 ghost use Rattle.blk_back.specs.View.{start_of, new_of, page_of, slot_page, slot_word};
 ghost use Rattle.blk_back.specs.Ask.{ask_of, loop_ask, reply_ask, entry_ask, index_ask, unmap_ask, next_gref, next_reply, response_word, IsAnswer, StaysInPage};
-ghost use Rattle.blk_back.specs.Step.{step_of, step_at, job_step, attaches};
-ghost use Rattle.blk_back.specs.Hands.{hands_of};
+ghost use Rattle.blk_back.specs.Keeping.{step_keeping};
+ghost use Rattle.blk_back.specs.Hands.{hands_of, all_hands_of};
 ghost use Rattle.blk_base.specs.declared.parts.Mode.TheVariants.{ReadWrite};
-ghost use Rattle.back_jobs.specs.Hands.{Names, HandsAfter};
+ghost use Rattle.back_jobs.specs.Hands.{Names, HandsKeep};
 ghost use Rattle.back_jobs.specs.Jobs.{ask_job, next_after};
 ghost use Rattle.back_jobs.specs.Work.{IsAnswer as IsJobAnswer};
 
@@ -36,8 +36,8 @@ struct RingInfo {
     entry: ArrayVec<u32, MOST_ENTRY_WORDS>,
 }
 
-/// The back end of a ring, of the shape that its front's terms say (`attach`). Its jobs move apart from it.
-/// After `new` it takes no memory.
+/// The back end of a ring, of the shape that its front's terms say (`attach`). Its jobs move apart from it,
+/// and keep mappings where grants are persistent. After `new` it takes no memory.
 #[derive(Drop)]
 pub struct Back {
     ring: RingInfo,
@@ -95,7 +95,7 @@ impl Back {
     {
         let shape = RingShape::of(Abi::X64, 0);
         let largest = RingShape::of(Abi::X64, 4);
-        // No mapping is kept: this back offers no persistent grants yet.
+        // Whether mappings are kept its front's terms say.
         let jobs = Jobs::reserve(alloc, largest, info, 0)?;
         Ok(Back {
             ring: RingInfo {
@@ -272,6 +272,7 @@ impl<'a> Endpoint<'a> for Back {
         ensures within { StaysInPage result }
         ensures names { Names (hands_of self.now) result }
         ensures few { length (hands_of self.now) ≤ 529 }
+        ensures few_kept { length (all_hands_of self.now) ≤ 1529 }
     {
         // Opens the back, for what is true of it at every moment.
         let _ = &self.ring.port;
@@ -280,8 +281,8 @@ impl<'a> Endpoint<'a> for Back {
 
     fn tell(&mut self, answer: &BackAnswer<'a>) -> Result<(), OutOfMemory>
         requires { IsAnswer (ask_of self.old) answer.now × (self.old.told ≡ None) }
-        ensures completed { self.new ≡ step_of self.old answer.now }
-        ensures hands { HandsAfter (ask_of self.old) answer.now (hands_of self.old) (hands_of self.new) }
+        ensures completed { self.new ≡ step_keeping self.old answer.now }
+        ensures hands { HandsKeep (ask_of self.old) answer.now (all_hands_of self.old) (all_hands_of self.new) }
         ensures takes_no_memory { IsOk result }
     {
         self.step(answer);
@@ -328,7 +329,7 @@ impl Back {
     // What an answer makes of it at each stage.
     fn step(&mut self, answer: &BackAnswer)
         requires { IsAnswer (ask_of self.old) answer.now }
-        ensures { self.new ≡ step_of self.old answer.now }
+        ensures { self.new ≡ step_keeping self.old answer.now }
     {
         match (self.stage, answer) {
             (BackStage::MapRing, BackAnswer::Mapped(mapping)) => self.mapped(*mapping),

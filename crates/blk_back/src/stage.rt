@@ -39,8 +39,8 @@ pub enum BackStage {
     StoreEvent,
     EventFence,
     LookAgain,
-    /// Has halted: unmaps this mapping, which an aborted job had in its hand; then the ring's
-    /// pages, the first that is still mapped; then closes its port; then does nothing more.
+    /// Has halted: unmaps this mapping, which an aborted job had in its hand, or which was kept; then the
+    /// ring's pages, the first that is still mapped; then closes its port; then does nothing more.
     Abort(Mapping),
     UnmapRing,
     ClosePort,

@@ -1,11 +1,12 @@
 // The back's jobs, and what it tells.
 ghost use Rattle.std.specs.Prelude.{◌≡◌, ◌<◌, ◌≤◌, None, Some, IfSome, length};
 ghost use Rattle.blk_back.specs.Ask.{is_waiting, is_idle};
-ghost use Rattle.blk_back.specs.Step.{job_step, told_effect, job_ask_of, next_job_of};
-ghost use Rattle.blk_back.specs.Hands.{hands_of};
+ghost use Rattle.blk_back.specs.Step.{told_effect, next_job_of};
+ghost use Rattle.blk_back.specs.Keeping.{job_ask_keeping, job_step_keeping};
+ghost use Rattle.blk_back.specs.Hands.{hands_of, all_hands_of};
 ghost use Rattle.back_jobs.specs.Work.{IsAnswer};
 ghost use Rattle.back_jobs.specs.Sound.{StaysInPageAndDisk};
-ghost use Rattle.back_jobs.specs.Hands.{Names, HandsAfter};
+ghost use Rattle.back_jobs.specs.Hands.{Names, HandsKeep};
 
 use super::Back;
 use crate::stage::BackStage;
@@ -15,13 +16,15 @@ use blk_base::{BackAnswer, BackAsk, Halt};
 
 impl Back {
     /// What the job of the `number`-th request that was fetched in this epoch asks next; `Wait` also
-    /// where there is none, and for every job after a halt.
+    /// where there is none, and for every job after a halt. Where mappings may be kept a frame of data is
+    /// mapped for writing too.
     #[inline(always)]
     pub fn job_ask(&self, number: u64) -> BackAsk<'_>
-        ensures value { result ≡ job_ask_of self.now number }
+        ensures value { result ≡ job_ask_keeping self.now number }
         ensures within { StaysInPageAndDisk self.now.jobs.info.sectors result }
         ensures names { Names (hands_of self.now) result }
         ensures few { length (hands_of self.now) ≤ 529 }
+        ensures few_kept { length (all_hands_of self.now) ≤ 1529 }
     {
         match self.halted {
             Some(_) => BackAsk::Wait,
@@ -29,13 +32,15 @@ impl Back {
         }
     }
 
-    /// Answers what the job of a number asks.
+    /// Answers what the job of a number asks. It takes the mapping that is kept of its next segment's
+    /// reference, or maps the frame next; when it is done with a segment it puts the mapping back, and what
+    /// is handed out for that is unmapped next.
     #[inline(always)]
     pub fn job_tell(&mut self, number: u64, answer: &BackAnswer)
-        requires answer { IsAnswer (job_ask_of self.old number) answer.now }
+        requires answer { IsAnswer (job_ask_keeping self.old number) answer.now }
         requires told { self.old.told ≡ None }
-        ensures stepped { self.new ≡ job_step self.old number answer.now }
-        ensures hands { HandsAfter (job_ask_of self.old number) answer.now (hands_of self.old) (hands_of self.new) }
+        ensures stepped { self.new ≡ job_step_keeping self.old number answer.now }
+        ensures hands { HandsKeep (job_ask_keeping self.old number) answer.now (all_hands_of self.old) (all_hands_of self.new) }
     {
         // After a halt jobs ask for nothing, so there is no answer to tell.
         if let Some(_) = self.halted {

@@ -1,21 +1,20 @@
 // What the back makes of each answer.
-ghost use Rattle.std.specs.Prelude.{◌≡◌, ◌+◌, ◌^◌, ◌<◌, [], ◌∷◌, ◌++◌, length, Some};
+ghost use Rattle.std.specs.Prelude.{◌≡◌, ◌+◌, ◌^◌, ◌<◌, [], ◌∷◌, ◌++◌, length, Some, IsPermutation};
 ghost use Rattle.ring_words.specs.Shape.{entry_words_of};
 ghost use Rattle.blk_base.specs.declared.parts.Mode.TheVariants.{ReadWrite};
 ghost use Rattle.blk_base.specs.declared.ask.BackAnswer.TheVariants.{Word, Done, Mapped, MapRefused, BindRefused};
 ghost use Rattle.blk_back.specs.declared.stage.BackStage.TheVariants as stage;
 ghost use Rattle.blk_back.specs.Ask.{loop_ask, next_reply, IsAnswer};
-ghost use Rattle.blk_back.specs.Step.{step_at, attaches, loop_step, loop_word, looked, halts, halts_at, overrun, abort, unbound, bound, other_pages, fetched, fetch_step, replied};
-ghost use Rattle.persist_grants.specs.KeptMappings.{none_kept};
-ghost use Rattle.back_jobs.specs.Jobs.{start_job};
+ghost use Rattle.blk_back.specs.Step.{step_at, loop_step, unbound, replied};
+ghost use Rattle.blk_back.specs.Hands.{all_hands_of};
+ghost use Rattle.blk_back.specs.Keeping.{abort_keeping, halts_keeping, attaches_keeping, overrun_keeping, looked_keeping, loop_word_keeping, loop_step_keeping, fetched_keeping, fetch_step_keeping, step_keeping_at};
 
 use super::Back;
 use crate::stage::{BackStage, Reply};
 use crate::told::BackTold;
 use arrayvec::ArrayVec;
-use back_jobs::Jobs;
 use blk_base::{Abi, BackAnswer, Halt, Mapping};
-use blk_layout::{RawRequest, read_request};
+use blk_layout::read_request;
 use ring_words::{BackRing, RingShape, notify};
 
 impl Back {
@@ -72,16 +71,21 @@ impl Back {
     }
 
     /// Takes the terms of its front where it waits for them: the layout of entries, the order of the
-    /// ring, 0 to 4 (it has `2^order` pages), a reference for each page in order, and the front's port.
-    /// It maps the pages next. Where it doesn't wait, with another order, and with more or fewer
-    /// references, nothing changes. It takes no memory.
+    /// ring, 0 to 4 (it has `2^order` pages), a reference for each page in order, the front's port, and how
+    /// many mappings it may keep in this epoch, 0 to 1000: 0 exactly where grants aren't persistent. It maps
+    /// the pages next. Where it doesn't wait, with another order, with more or fewer references, and with
+    /// more than 1000 mappings, nothing changes. It takes no memory.
     #[tactic(auto, using(crate::proofs::Powers::few_pages, crate::proofs::Powers::pages_whole, crate::proofs::Powers::some_pages, crate::proofs::Powers::no_distance))]
-    pub fn attach(&mut self, abi: Abi, order: u32, grefs: &[u32], port: u32)
-        ensures { self.new ≡ attaches (record { abi = abi; order = order }) grefs.now port self.old }
+    pub fn attach(&mut self, abi: Abi, order: u32, grefs: &[u32], port: u32, kept: u32)
+        ensures { self.new ≡ attaches_keeping (record { abi = abi; order = order }) grefs.now port kept self.old }
     {
         if !matches!(self.stage, BackStage::InitWait) || order > 4 || grefs.len() != 1 << order {
             return;
         }
+        if kept > 1000 {
+            return;
+        }
+        self.jobs.keep_at_most(kept);
         self.abi = abi;
         self.order = order;
         self.grefs = ArrayVec::new();
@@ -95,7 +99,7 @@ impl Back {
     pub(super) fn begin(&mut self, answer: &BackAnswer)
         requires stage { self.old.stage ≡ stage.Loop }
         requires kind { IsAnswer (loop_ask self.old (next_reply self.old)) answer.now }
-        ensures { self.new ≡ loop_step self.old (next_reply self.old) answer.now }
+        ensures { self.new ≡ loop_step_keeping self.old (next_reply self.old) answer.now }
     {
         match (self.next_reply(), answer) {
             (Some(r), _) => self.begin_reply(r),
@@ -120,7 +124,7 @@ impl Back {
     // A word was read: of the requests' producer, or of an entry.
     fn read_in_loop(&mut self, word: u32)
         requires { self.old.stage ≡ stage.Loop }
-        ensures { self.new ≡ loop_word self.old word }
+        ensures { self.new ≡ loop_word_keeping self.old word }
     {
         if self.ring.indices.unconsumed(self.ring.seen) == 0 {
             self.look(word);
@@ -134,7 +138,7 @@ impl Back {
     // The requests' producer was read for the first time.
     fn look(&mut self, prod: u32)
         requires { self.old.stage ≡ stage.Loop }
-        ensures { self.new ≡ looked self.old prod (record self.old { ring = record self.old.ring { seen = prod }; stage = stage.StoreEvent }) }
+        ensures { self.new ≡ looked_keeping self.old prod (record self.old { ring = record self.old.ring { seen = prod }; stage = stage.StoreEvent }) }
     {
         if self.ring.indices.overran(prod) {
             self.overrun(prod);
@@ -152,7 +156,7 @@ impl Back {
     #[inline(never)]
     pub(super) fn look_again(&mut self, prod: u32)
         requires { self.old.stage ≡ stage.LookAgain }
-        ensures { self.new ≡ step_at stage.LookAgain self.old (Word prod) }
+        ensures { self.new ≡ step_keeping_at stage.LookAgain self.old (Word prod) }
     {
         if self.ring.indices.overran(prod) {
             self.overrun(prod);
@@ -166,11 +170,13 @@ impl Back {
     }
 
     /// Halts for what its negotiation found, where no step is begun; else nothing changes. An overrun
-    /// isn't for it to find. A back that is connected unmaps its jobs' mappings and the ring's
-    /// pages, and closes its port; one that isn't unmaps the pages that it has mapped. It takes no
+    /// isn't for it to find. A back that is connected unmaps its jobs' mappings, those that are kept,
+    /// the least recently used first, and the ring's pages, and closes its port; one that isn't unmaps the
+    /// pages that it has mapped. It takes no
     /// memory.
     pub fn halt(&mut self, why: Halt)
-        ensures { self.new ≡ halts why self.old }
+        ensures halted { self.new ≡ halts_keeping why self.old }
+        ensures hands { IsPermutation (all_hands_of self.old) (all_hands_of self.new) }
     {
         if matches!(why, Halt::Overrun { .. }) {
             return;
@@ -192,7 +198,7 @@ impl Back {
     #[inline(never)]
     fn overrun(&mut self, prod: u32)
         requires { length self.old.pages ≡ 2 ^ self.old.shape.order }
-        ensures { self.new ≡ overrun self.old prod }
+        ensures { self.new ≡ overrun_keeping self.old prod }
     {
         self.halted = Some(Halt::Overrun {
             prod,
@@ -201,12 +207,13 @@ impl Back {
         self.abort();
     }
 
-    /// Aborts the jobs as far as the next mapping in a job's hand.
+    /// Aborts the jobs as far as the next mapping in a job's hand; where there is none it gives up a mapping
+    /// that is kept.
     #[inline(never)]
     #[tactic(auto, using(crate::proofs::Powers::some_pages))]
     pub(super) fn abort(&mut self)
         requires { length self.old.pages ≡ 2 ^ self.old.shape.order }
-        ensures { self.new ≡ abort self.old }
+        ensures { self.new ≡ abort_keeping self.old }
     {
         self.stage = match self.jobs.give_up() {
             None => BackStage::UnmapRing,
@@ -218,7 +225,7 @@ impl Back {
     pub(super) fn fetch(&mut self, k: u32, word: u32)
         requires stage { self.old.stage ≡ stage.Fetch k }
         requires placed { k < entry_words_of self.old.shape.abi }
-        ensures { self.new ≡ fetch_step self.old k word }
+        ensures { self.new ≡ fetch_step_keeping self.old k word }
     {
         if k + 1 == self.shape().entry_words() {
             self.fetched(k, word);
@@ -233,13 +240,13 @@ impl Back {
     fn fetched(&mut self, k: u32, word: u32)
         requires stage { self.old.stage ≡ stage.Fetch k }
         requires last { k + 1 ≡ entry_words_of self.old.shape.abi }
-        ensures { self.new ≡ fetched self.old (self.old.ring.entry ++ word ∷ []) }
+        ensures { self.new ≡ fetched_keeping self.old (self.old.ring.entry ++ word ∷ []) }
     {
         self.ring.entry.push(word);
         let request = read_request(self.abi, self.ring.entry.as_slice());
         self.fetched = self.fetched.wrapping_add(1);
         self.ring.indices.consume();
-        start(&mut self.jobs, self.fetched, &request);
+        self.jobs.start(self.fetched, &request);
         self.stage = BackStage::Loop;
     }
 
@@ -278,14 +285,4 @@ fn unbound(pages: &[Mapping]) -> BackStage
     } else {
         BackStage::UnmapUnbound
     }
-}
-
-// A request is begun, where no mapping is kept.
-#[tactic(auto, using(crate::proofs::Plain::started))]
-fn start(jobs: &mut Jobs, number: u64, request: &RawRequest)
-    requires has_room { length jobs.old.works < jobs.old.room }
-    requires plain { jobs.old.kept ≡ none_kept 0 }
-    ensures { jobs.new ≡ start_job jobs.old number request.now }
-{
-    jobs.start(number, request);
 }

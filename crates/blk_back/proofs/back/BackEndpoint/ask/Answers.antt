@@ -1,6 +1,7 @@
 use Rattle.blk_back.specs.Ask.{ask_of, StaysInPage}
 use Rattle.blk_back.specs.Sound.{IsSound}
 use Rattle.blk_back.proofs.Hands.{names_of, few_hands}
+use Rattle.blk_back.proofs.Keeping.{few_all_hands}
 use Rattle.blk_back.proofs.back.BackEndpoint.ask.Goals as goal
 
 pub returns-clause-names : goal.returns-clause-names
@@ -14,3 +15,8 @@ pub returns-clause-few : goal.returns-clause-few
 returns-clause-few c =
     let sound : IsSound c.args.self.now = rw (← c.self.view_is) c.self.invariant in
     few_hands c.args.self.now sound
+
+pub returns-clause-few_kept : goal.returns-clause-few_kept
+returns-clause-few_kept c =
+    let sound : IsSound c.args.self.now = rw (← c.self.view_is) c.self.invariant in
+    few_all_hands c.args.self.now sound
