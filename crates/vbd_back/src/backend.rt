@@ -12,8 +12,8 @@ ghost use Rattle.vbd_back.specs.Turn.{turn_of};
 mod ring;
 
 use crate::key::Key;
-use crate::moves;
 use crate::turn::{Turn, turn_of};
+use crate::{moves, plain};
 use blk_back::Back;
 use blk_base::{BackAnswer, BackAsk, Config, Endpoint, Halt, OutOfMemory};
 use std::alloc::Global;
@@ -87,7 +87,7 @@ impl Backend {
         let bus = if going {
             BackBus::new(features, disk)
         } else {
-            ring.halt(Halt::Gone(6));
+            plain::halt(&mut ring, Halt::Gone(6));
             BackBus::halted(features, disk)
         };
         let turn = turn_of(&bus, &ring);
@@ -203,7 +203,7 @@ impl Backend {
         requires heard { self.old.ring.told ≡ None }
         ensures { self.new ≡ step_of self.old answer.now }
     {
-        let _ = self.ring.tell(answer);
+        plain::tell(&mut self.ring, answer);
         if self.ring.halted().is_some() {
             moves::catch_up(&self.ring, &mut self.bus);
             self.turn = turn_of(&self.bus, &self.ring);

@@ -7,6 +7,7 @@
 mod backend;
 mod key;
 mod moves;
+mod plain;
 mod turn;
 
 pub use backend::Backend;

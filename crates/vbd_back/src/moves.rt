@@ -2,14 +2,16 @@
 ghost use Rattle.std.specs.Prelude.{◌≡◌, None, true, false};
 ghost use Rattle.blk_back.specs.Ask.{ask_of as ring_ask_of, IsAnswer as IsRingAnswer};
 ghost use Rattle.xenbus_state.specs.BackAsk.{ask_of as bus_ask, IsAnswer as IsBusAnswer};
+ghost use Rattle.blk_back.specs.Keeping.{KeepsNone};
 ghost use Rattle.vbd_back.specs.View.{both};
 ghost use Rattle.vbd_back.specs.Ask.{ask_of, IsAnswer, ring_moves};
 ghost use Rattle.vbd_back.specs.Turn.{turn_of};
 ghost use Rattle.vbd_back.specs.Step.{ring_halt, spoken, ring_step, step_of, IsHeard, followed, waited, settled, caught_up};
 
+use crate::plain;
 use crate::turn::Turn;
 use blk_back::{Back, BackStage};
-use blk_base::{BackAnswer, Endpoint, Halt, ShortText};
+use blk_base::{BackAnswer, Halt, ShortText};
 use xenbus_state::{BackBus, BackBusAsk, BackHalt, FrontKey};
 
 /// Answers what is asked, whosever turn it is.
@@ -17,7 +19,9 @@ pub fn tell(turn: Turn, ring: &mut Back, bus: &mut BackBus, answer: &BackAnswer)
     requires turn { turn ≡ turn_of (both ring.old bus.old) }
     requires kind { IsAnswer (ask_of (both ring.old bus.old)) answer.now }
     requires heard { ring.old.told ≡ None }
-    ensures { both ring.new bus.new ≡ step_of (both ring.old bus.old) answer.now }
+    requires plain { KeepsNone ring.old }
+    ensures stepped { both ring.new bus.new ≡ step_of (both ring.old bus.old) answer.now }
+    ensures plain { KeepsNone ring.new }
 {
     match turn {
         Turn::Keys => take_key(ring, bus, answer),
@@ -49,15 +53,17 @@ pub fn ring_moves(ring: &Back, bus: &BackBus) -> bool
 // The negotiation was answered: where it halts, so does the ring's end, and where it has read the layout
 // the ring's end takes the terms of the front.
 fn take_key(ring: &mut Back, bus: &mut BackBus, answer: &BackAnswer)
-    requires { IsBusAnswer (bus_ask bus.old) answer.now }
-    ensures { both ring.new bus.new ≡ spoken (both ring.old bus.old) answer.now }
+    requires kind { IsBusAnswer (bus_ask bus.old) answer.now }
+    requires plain { KeepsNone ring.old }
+    ensures spoken { both ring.new bus.new ≡ spoken (both ring.old bus.old) answer.now }
+    ensures plain { KeepsNone ring.new }
 {
     let reads_layout = matches!(bus.ask(), BackBusAsk::GetKey(FrontKey::Protocol));
     match bus.tell(answer) {
-        Some(why) => ring.halt(ring_halt(why)),
+        Some(why) => plain::halt(ring, ring_halt(why)),
         None if reads_layout => {
             let terms = bus.terms();
-            ring.attach(terms.abi, terms.order, bus.grefs(), terms.port);
+            plain::attach(ring, terms.abi, terms.order, bus.grefs(), terms.port);
         }
         None => {}
     }
@@ -86,9 +92,11 @@ fn move_ring(ring: &mut Back, bus: &mut BackBus, answer: &BackAnswer)
     requires moves { ring_moves (bus_ask bus.old) ring.old.stage ≡ true }
     requires kind { IsRingAnswer (ring_ask_of ring.old) answer.now }
     requires heard { ring.old.told ≡ None }
-    ensures { both ring.new bus.new ≡ ring_step true (bus_ask bus.old) (both ring.old bus.old) answer.now }
+    requires plain { KeepsNone ring.old }
+    ensures stepped { both ring.new bus.new ≡ ring_step true (bus_ask bus.old) (both ring.old bus.old) answer.now }
+    ensures plain { KeepsNone ring.new }
 {
-    let _ = ring.tell(answer);
+    plain::tell(ring, answer);
     follow(bus, answer);
     catch_up(ring, bus);
 }

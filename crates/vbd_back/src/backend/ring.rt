@@ -9,6 +9,7 @@ ghost use Rattle.vbd_back.specs.Ask.{is_waiting, is_idle};
 ghost use Rattle.vbd_back.specs.Step.{job_ask_of, job_step, next_job_of};
 
 use super::Backend;
+use crate::plain;
 use crate::turn::Turn;
 use blk_back::{BackStage, BackTold};
 use blk_base::{BackAnswer, BackAsk, Halt};
@@ -23,7 +24,7 @@ impl Backend {
         ensures names { Names (hands_of self.now.ring) result }
         ensures few { length (hands_of self.now.ring) ≤ 529 }
     {
-        self.ring.job_ask(number)
+        plain::job_ask(&self.ring, number)
     }
 
     /// Answers what the job of a number asks.
@@ -34,7 +35,7 @@ impl Backend {
         ensures stepped { self.new ≡ job_step self.old number answer.now }
         ensures hands { HandsAfter (job_ask_of self.old number) answer.now (hands_of self.old.ring) (hands_of self.new.ring) }
     {
-        self.ring.job_tell(number, answer);
+        plain::job_tell(&mut self.ring, number, answer);
     }
 
     /// The least number above this one of a job that is held; `None` exactly where there is none, and
