@@ -1,4 +1,5 @@
 // How a back takes its terms, maps its ring, copies an entry, replies, sleeps and halts.
+mod kept;
 mod script;
 mod shapes;
 

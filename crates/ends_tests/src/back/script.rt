@@ -1,6 +1,6 @@
 // Scripts: what a back is told, step by step, and what it is to ask and to tell. A test is one call over
 // their parts; the calls that play them promise nothing, and are proved once.
-use crate::asks::{Answer, Ask, Why, asked, given, halt};
+use crate::asks::{Answer, Ask, RING, Why, asked, given, halt};
 use crate::expected::{holds, same};
 use blk_back::{Back, BackTold};
 use blk_base::{Abi, BackAnswer, BackAsk, Config, Endpoint, Halt, Mapping, OutOfMemory, Status};
@@ -11,6 +11,8 @@ use std::process::Abort;
 pub enum Step<'a> {
     /// It is given its front's terms: a layout, an order, references of the ring's pages, and port 1.
     Attaches(Abi, u32, &'a [u32]),
+    /// It is given the terms of a ring of one page, of reference 8, and may keep so many mappings.
+    AttachesKeeping(u32),
     Asks(Ask),
     Told(Answer),
     /// It asks this, which is done.
@@ -31,6 +33,14 @@ pub enum Step<'a> {
     /// The lowest number of a job above this one.
     NextJob(u64, Option<u64>),
     JobAsks(u64, Ask),
+    /// It copies the entry of a write, at this word of the ring: of this id, of one sector at this place on
+    /// the disk, of the first sector of the frame of this reference.
+    FetchesWrite(u32, u32, u32, u32),
+    /// The job of a number asks this, and is told this.
+    JobDoes(u64, Ask, Answer),
+    /// The job of a number reads the words of the first sector through this mapping, each word once, and
+    /// writes them to this sector of the disk.
+    JobMoves(u64, Mapping, u64),
 }
 
 // A back on a disk of eight sectors, whose ring starts at this index.
@@ -69,6 +79,20 @@ fn tell(rt: &impl Abort, back: &mut Back, given: BackAnswer) -> Option<BackTold>
     back.take_told()
 }
 
+// Answers what a job asks with an answer of that kind; what it tells is taken.
+fn tell_job(rt: &impl Abort, back: &mut Back, number: u64, given: BackAnswer) {
+    let _ = back.take_told();
+    let allowed = match (back.job_ask(number), &given) {
+        (BackAsk::Map { gref, mode }, BackAnswer::Mapped(m)) => m.gref == gref && m.mode == mode,
+        (BackAsk::Read { .. }, BackAnswer::Word(_)) => true,
+        (BackAsk::DiskWrite(_, _), BackAnswer::Done) => true,
+        (BackAsk::Unmap(_), BackAnswer::Done) => true,
+        _ => false,
+    };
+    holds(rt, allowed);
+    back.job_tell(number, &given);
+}
+
 fn ask(back: &Back) -> BackAsk<'_> {
     back.ask()
 }
@@ -94,7 +118,11 @@ fn halted(back: &Back) -> Option<Halt> {
 }
 
 fn attach(back: &mut Back, abi: Abi, order: u32, grefs: &[u32]) {
-    back.attach(abi, order, grefs, 1);
+    back.attach(abi, order, grefs, 1, 0);
+}
+
+fn attach_keeping(back: &mut Back, kept: u32) {
+    back.attach(Abi::X64, 0, &[8], 1, kept);
 }
 
 fn halts(back: &mut Back, why: Why) {
@@ -111,6 +139,33 @@ fn reads_zeros(rt: &impl Abort, back: &mut Back, mapping: Mapping, (first, end):
     for word in first..end {
         does(rt, back, Ask::Read(mapping, word), Answer::Word(0));
     }
+}
+
+fn fetches_write(rt: &impl Abort, back: &mut Back, at: u32, (id, sector, gref): (u32, u32, u32)) {
+    let words = [0xca000101, 0, id, 0, sector, 0, gref];
+    for (k, word) in (0..7u32).zip(words) {
+        let place = at.wrapping_add(k);
+        does(rt, back, Ask::Read(RING, place), Answer::Word(word));
+    }
+    reads_zeros(rt, back, RING, (at.wrapping_add(7), at.wrapping_add(28)));
+}
+
+fn job_does(rt: &impl Abort, back: &mut Back, number: u64, (asks, answer): (Ask, Answer)) {
+    same(rt, job_ask(back, number), asked(asks));
+    tell_job(rt, back, number, given(answer));
+}
+
+fn job_moves(rt: &impl Abort, back: &mut Back, number: u64, (mapping, sector): (Mapping, u64)) {
+    for word in 0..128u32 {
+        let read = (Ask::Read(mapping, word), Answer::Word(word));
+        job_does(rt, back, number, read);
+    }
+    let writes = match job_ask(back, number) {
+        BackAsk::DiskWrite(written, _) => Some(written),
+        _ => None,
+    };
+    same(rt, writes, Some(sector));
+    tell_job(rt, back, number, BackAnswer::Done);
 }
 
 fn replies(rt: &impl Abort, back: &mut Back, id: u64, status: Status) {
@@ -143,6 +198,20 @@ fn takes(rt: &impl Abort, back: &mut Back, step: &Step) {
         Step::Halts(why) => halts(back, why),
         Step::NextJob(after, wanted) => same(rt, next_job(back, after), wanted),
         Step::JobAsks(number, wanted) => same(rt, job_ask(back, number), asked(wanted)),
+        _ => serves(rt, back, step),
+    }
+}
+
+// The steps of jobs.
+fn serves(rt: &impl Abort, back: &mut Back, step: &Step) {
+    match *step {
+        Step::AttachesKeeping(kept) => attach_keeping(back, kept),
+        Step::FetchesWrite(at, id, sector, gref) => {
+            fetches_write(rt, back, at, (id, sector, gref))
+        }
+        Step::JobDoes(number, asks, answer) => job_does(rt, back, number, (asks, answer)),
+        Step::JobMoves(number, mapping, sector) => job_moves(rt, back, number, (mapping, sector)),
+        _ => {}
     }
 }
 
