@@ -1,3 +1,5 @@
+pub mod Grants
 pub mod Numbers
 pub mod Order
+pub mod Plain
 pub mod Shapes

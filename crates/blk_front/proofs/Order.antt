@@ -1,6 +1,6 @@
 -- The front's requests in order of number after a suspend and beside the one that is ending, and what is true of the front then.
 use Rattle.std.proofs.Common.{◌≡◌, ◌≢◌, ℕ, ◌+◌, ◌-◌, ◌%◌, ◌^◌, ◌<◌, ◌≤◌, ◌⊎◌, inl, inr, List, [], ◌∷◌, ◌++◌, length, get_or, refl, sym, ap, ◌∙◌, subst, arith}
-use Rattle.std.specs.Prelude.{Option, Some, None, All, IfSome, remove}
+use Rattle.std.specs.Prelude.{false, Option, Some, None, All, IfSome, remove}
 use Rattle.std.proofs.lemmas.Bool.{cases_lt}
 use Rattle.std.proofs.lemmas.List.{get_or_default}
 use Rattle.std.proofs.lemmas.List.Edits.{length-remove, get_or-remove_below, get_or-remove_above}
@@ -9,7 +9,7 @@ use Rattle.resume_shadow.proofs.Order.{all_by_number, one_more, ascending_by_num
 use Rattle.blk_front.proofs.Numbers.{remove_all}
 use Rattle.blk_front.specs.declared.request.Request.{Request}
 use Rattle.blk_front.specs.declared.stage.Ending.{Ending}
-use Rattle.blk_front.specs.Sound.{AreAscending, IsApart, IsPlaced, IsUnissued, IsIssuing, IsReading, IsHeld, IsSound}
+use Rattle.blk_front.specs.Sound.{AreAscending, IsApart, IsPlaced, IsKeeping, IsUnissued, IsIssuing, IsReading, IsHeld, IsSound}
 use Rattle.blk_front.specs.declared.stage.FrontStage.{FrontStage}
 use Rattle.blk_front.specs.declared.stage.FrontStage.TheVariants as stage
 use Rattle.blk_front.specs.Inside.{held}
@@ -80,6 +80,11 @@ after_placed (stage.ReadData n) shape h = h
 after_placed (stage.LeftData n) shape h = h
 after_placed s shape h = omega arith
 
+after_keeping : (s : FrontStage) → IsKeeping (stage_after s) false
+after_keeping (stage.ReadData n) = tt
+after_keeping (stage.LeftData n) = tt
+after_keeping s = tt
+
 after_issuing : (s : FrontStage) (n : ℕ) → IsIssuing (stage_after s) n
 after_issuing (stage.ReadData n) m = tt
 after_issuing (stage.LeftData n) m = tt
@@ -148,6 +153,7 @@ resumed_sound v word sound = record {
   room = after_fits v.stage v.ending v.requests (entries_of v.shape.order) sound.room;
   seen = omega arith;
   placed = after_placed v.stage v.shape sound.placed;
+  keeping = after_keeping v.stage;
   unissued = after_unissued v.stage (length (requests_after v.stage v.ending v.requests));
   issuing = after_issuing v.stage (length (requests_after v.stage v.ending v.requests));
   reading = after_reading v.stage (distance_of v.start v.start);
@@ -169,6 +175,7 @@ agreed_sound v order at word within room sound = record {
   room = subst (λ (s : FrontStage). length v.requests + ending_of s ≤ entries_of order) (sym at) (omega arith);
   seen = omega arith;
   placed = subst (λ (s : FrontStage). IsPlaced s (record v.shape { order = order })) (sym at) (omega arith);
+  keeping = sound.keeping;
   unissued = sound.unissued;
   issuing = sound.issuing;
   reading = subst (λ (s : FrontStage). IsReading s (distance_of v.start v.start)) (sym at) tt;

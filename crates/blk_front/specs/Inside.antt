@@ -18,6 +18,7 @@ view_of f = record {
   requests = f.requests.held;
   ending = f.ending;
   pool = f.pool;
+  kept = f.kept;
   words = f.words;
   told = f.told;
 }

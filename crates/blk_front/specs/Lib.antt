@@ -9,4 +9,5 @@ pub mod Step
 pub mod Submit
 pub mod State
 pub mod Suspend
+pub mod Keep
 pub mod Sound

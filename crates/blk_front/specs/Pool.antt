@@ -1,5 +1,5 @@
 -- The pool of frames for the requests' data: 1000 frames from 18 on.
-use Rattle.std.specs.Prelude.{ℕ, zero, suc, ◌+◌, ◌-◌, Bool, true, false, not, List, [], ◌∷◌, ◌++◌, fold, Option, Some, position, option_map, option_and_then, replicate, slice_set}
+use Rattle.std.specs.Prelude.{ℕ, zero, suc, ◌+◌, ◌-◌, Bool, true, false, not, List, [], ◌∷◌, ◌++◌, fold, drop, Option, Some, position, option_map, option_and_then, replicate, slice_index_or, slice_set}
 
 abbrev pub first_frame : ℕ
 first_frame = 18
@@ -16,6 +16,17 @@ with_taken taken frame = slice_set taken (frame - 18) true
 
 abbrev pub with_free : List Bool → ℕ → List Bool
 with_free taken frame = slice_set taken (frame - 18) false
+
+-- whether a frame is in use, and the lowest one in use from this one on
+abbrev pub is_taken : List Bool → ℕ → Bool
+is_taken taken frame = slice_index_or taken (frame - 18) false
+
+abbrev pub taken_from : List Bool → ℕ → Option ℕ
+taken_from taken frame = option_map (λ more. frame + more) (position (λ t. t) (drop (frame - 18) taken))
+
+-- the place, from this one on, of the first of these frames that isn't in use
+abbrev pub untaken_from : List Bool → List ℕ → (place : ℕ) → Option ℕ
+untaken_from taken frames place = option_map (λ more. place + more) (position (λ frame. not (is_taken taken frame)) (drop place frames))
 
 -- so many frames more are taken into use, each the lowest that isn't: all that were taken, and the pool then; none where fewer are left
 abbrev pub taking : ℕ → List Bool → List ℕ → Option (List ℕ × List Bool)

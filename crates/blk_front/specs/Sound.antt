@@ -1,5 +1,5 @@
 -- What is true of the front at every moment.
-use Rattle.std.specs.Prelude.{◌≡◌, ◌≢◌, ℕ, ◌+◌, ◌^◌, ◌<◌, ◌≤◌, List, length, All, Option, IfSome, IsSome}
+use Rattle.std.specs.Prelude.{◌≡◌, ◌≢◌, ℕ, ◌+◌, ◌^◌, ◌<◌, ◌≤◌, Bool, true, List, length, All, Option, IfSome, IsSome}
 use Rattle.blk_base.specs.Distance.{distance_of}
 use Rattle.ring_words.specs.Shape.{Shape, entries_of, entry_words_of}
 use Rattle.blk_front.specs.declared.request.Request.{Request}
@@ -29,7 +29,15 @@ IsPlaced (stage.ReadData n) shape = n < 983040
 IsPlaced (stage.LeftData n) shape = n < 983040
 IsPlaced (stage.RingRead page) shape = page < 2 ^ shape.order
 IsPlaced (stage.RingEnd page seen) shape = page < 2 ^ shape.order
+IsPlaced (stage.KeptRead frame) shape = (18 ≤ frame) × (frame < 1018)
+IsPlaced (stage.KeptEnd frame seen) shape = (18 ≤ frame) × (frame < 1018)
 IsPlaced s shape = Unit {0}
+
+-- kept grants are ended where grants are kept
+abbrev pub IsKeeping : FrontStage → (persistent : Bool) → Type 0
+IsKeeping (stage.KeptRead frame) persistent = persistent ≡ true
+IsKeeping (stage.KeptEnd frame seen) persistent = persistent ≡ true
+IsKeeping s persistent = Unit {0}
 
 -- before the ring is made none is issued
 abbrev pub IsUnissued : FrontStage → (count waiting : ℕ) → Type 0
@@ -83,6 +91,7 @@ pub record IsSound (v : View) : Type 0 where
   -- no more responses were seen than requests were pushed
   pub seen : distance_of v.ring.indices.cons v.ring.seen ≤ distance_of v.ring.indices.cons v.ring.indices.prod
   pub placed : IsPlaced v.stage v.shape
+  pub keeping : IsKeeping v.stage v.offers.persistent
   pub unissued : IsUnissued v.stage (length v.requests) v.waiting
   pub issuing : IsIssuing v.stage v.waiting
   pub reading : IsReading v.stage (distance_of v.ring.indices.cons v.ring.seen)

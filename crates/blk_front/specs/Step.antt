@@ -214,13 +214,15 @@ abbrev pub IsTaking : FrontStage → Type 0
 IsTaking (stage.ResponseLast low high) = Unit {0}
 IsTaking s = ⊥
 
--- a grant is ended now
+-- a request's grants are ended now
 abbrev pub IsRevoking : FrontStage → Type 0
+IsRevoking (stage.GrantRead place) = Unit {0}
 IsRevoking (stage.GrantEnd place before) = Unit {0}
 IsRevoking s = ⊥
 
 -- and a word of data may be read
 abbrev pub IsEndingStage : FrontStage → Type 0
+IsEndingStage (stage.GrantRead place) = Unit {0}
 IsEndingStage (stage.GrantEnd place before) = Unit {0}
 IsEndingStage (stage.ReadData n) = Unit {0}
 IsEndingStage (stage.LeftData n) = Unit {0}

@@ -6,6 +6,7 @@ use Rattle.blk_front.specs.declared.request.Request.{Request}
 use Rattle.blk_front.specs.declared.stage.Ending.{Ending}
 use Rattle.blk_front.specs.declared.stage.FrontStage.{FrontStage}
 use Rattle.blk_front.specs.declared.stage.FrontStage.TheVariants as stage
+use Rattle.blk_front.specs.Pool.{empty_pool}
 use Rattle.blk_front.specs.State.{is_open}
 use Rattle.blk_front.specs.View.{View, no_offers}
 
@@ -43,6 +44,7 @@ resumed v = record v {
   waiting = length (requests_after v.stage v.ending v.requests);
   requests = requests_after v.stage v.ending v.requests;
   ending = ending_after v.stage v.ending;
+  kept = empty_pool;
 }
 
 -- a closed or broken front does nothing more

@@ -18,7 +18,7 @@ pub record RingInfo : Type 0 where
   pub seen : ℕ
   pub entry : List ℕ
 
--- The front: the ring's first index; what its back published of its disk and of what it serves, as it read it; the shape of its ring; its ring and what it does; whether it closes; the last number given; the unfinished requests in order of number, of which the last `waiting` aren't issued yet; the request whose response was taken, until it is finished; the frames in use; the words of the sector being read; what is to be told.
+-- The front: the ring's first index; what its back published of its disk and of what it serves, as it read it; the shape of its ring; its ring and what it does; whether it closes; the last number given; the unfinished requests in order of number, of which the last `waiting` aren't issued yet; the request whose response was taken, until it is finished; the frames in use; the frames whose grants are kept; the words of the sector being read; what is to be told.
 pub record View : Type 0 where
   pub start : ℕ
   pub offers : Offers
@@ -31,6 +31,7 @@ pub record View : Type 0 where
   pub requests : List Request
   pub ending : Option Ending
   pub pool : List Bool
+  pub kept : List Bool
   pub words : List ℕ
   pub told : Option Told
 
@@ -71,9 +72,9 @@ fresh_word start k =
 abbrev pub next_request : View → Option Request
 next_request v = if v.waiting == 0 then None else slice_get v.requests (length v.requests - v.waiting)
 
--- nothing is read yet: a disk of no sectors, and a back that serves reads and writes alone
+-- nothing is read yet: a disk of no sectors, and a back that serves reads and writes alone and keeps no mapping
 abbrev pub no_offers : Offers
-no_offers = record { sectors = 0; read_only = false; barrier = false; flush = false; discard = false; indirect = 0 }
+no_offers = record { sectors = 0; read_only = false; barrier = false; flush = false; discard = false; indirect = 0; persistent = false }
 
 -- a front that makes its ring next
 abbrev pub start_of : Options → View
@@ -89,6 +90,7 @@ start_of config = record {
   requests = [];
   ending = None;
   pool = empty_pool;
+  kept = empty_pool;
   words = replicate 128 0;
   told = None;
 }

@@ -73,7 +73,8 @@ impl FrameList {
 
     /// All of them.
     pub fn as_slice(&self) -> &[PoolFrame]
-        ensures { result.now ≡ self.now.items }
+        ensures all { result.now ≡ self.now.items }
+        ensures few { length result.now ≤ 962 }
     {
         self.frames.as_slice()
     }

@@ -4,8 +4,8 @@ ghost use Rattle.blk_base.specs.declared.ask.FrontAsk.TheVariants.{Wait};
 ghost use Rattle.std.specs.Option.{option_copied};
 ghost use Rattle.ring_words.specs.Shape.{entry_words_of};
 ghost use Rattle.blk_front.specs.View.{start_of, next_request, ring_frame, ring_page_frame, slot_frame, slot_word, entry_frame, entry_word};
-ghost use Rattle.blk_front.specs.Ask.{ask_of, data_asked, is_through, loop_ask, issue_ask, response_ask, entry_ask, data_ask, page_ask, name_ask, grant_ask, revoke_ask, end_ask, read_ask, IsAnswer, IsPlace, StaysInMemory, Asks};
-ghost use Rattle.blk_front.specs.Step.{step_of, step_at, ring_read, ring_ended};
+ghost use Rattle.blk_front.specs.Keep.{ask_as, step_as, loop_ask_as, issue_ask_as, name_or_enter, grant_ask_as, flags_as, ungranted, first_place, next_place};
+ghost use Rattle.blk_front.specs.Ask.{data_asked, is_through, response_ask, entry_ask, data_ask, page_ask, name_ask, revoke_ask, end_ask, read_ask, IsAnswer, IsPlace, StaysInMemory, Asks};
 ghost use Rattle.blk_front.specs.Entry.{entry_of};
 ghost use Rattle.blk_front.specs.Request.{IsShaped};
 ghost use Rattle.blk_front.specs.Submit.{submit_of, unfinished};
@@ -44,7 +44,10 @@ struct RingInfo {
 
 /// The front end of a ring of 1 to 16 pages under the layout of its guest, which issues reads and
 /// writes of up to 88 sectors, of up to 7680 where its back takes so many segments in indirect pages,
-/// and barriers, flushes and discards where its back serves them. After `new` it takes no memory.
+/// and barriers, flushes and discards where its back serves them. Where both ends published
+/// `feature-persistent` it keeps the grant of each frame from its first use on, for reading and writing,
+/// and ends it as it leaves; else it ends a request's grants once that is answered. After `new` it takes
+/// no memory.
 #[derive(Drop)]
 pub struct Front {
     start: u32,
@@ -60,6 +63,7 @@ pub struct Front {
     spare: SpareLists,
     ending: Option<Ending>,
     pool: Pool,
+    kept: Pool,
     words: [u32; 128],
     told: Option<Told>,
 }
@@ -106,6 +110,7 @@ impl Front {
             spare,
             ending: None,
             pool: Pool::new(),
+            kept: Pool::new(),
             words: [0; 128],
             told: None,
         })
@@ -134,7 +139,7 @@ impl Front {
     #[inline(always)]
     pub fn data_asked(&self) -> Option<FrontAsk<'_>>
         ensures value { result ≡ data_asked self.now }
-        ensures asked { IfSome result (λ ask. Asks ask (ask_of self.now)) }
+        ensures asked { IfSome result (λ ask. Asks ask (ask_as self.now)) }
     {
         match self.stage {
             FrontStage::Data(n) => Some(self.issue_data(n)),
@@ -158,7 +163,7 @@ impl Front {
 
     // What is asked where nothing was begun.
     fn ask_in_loop(&self) -> FrontAsk<'_>
-        ensures { Asks result (loop_ask self.now (next_request self.now)) }
+        ensures { Asks result (loop_ask_as self.now (next_request self.now)) }
     {
         if let Some(r) = self.next_request() {
             return self.issue(r);
@@ -212,17 +217,65 @@ impl Front {
     #[inline(always)]
     fn issue(&self, r: &Request) -> FrontAsk<'_>
         requires { IsShaped r.now }
-        ensures { Asks result (issue_ask self.now r.now r.now.transfer) }
+        ensures { Asks result (issue_ask_as self.now r.now r.now.transfer) }
     {
         match r.transfer {
             Transfer::Write(_) | Transfer::Barrier(_) => write_data(r, 0),
             Transfer::Read if is_indirect(r.count) => write_page(r, 0),
-            Transfer::Read => write_frame(&r.frame(0)),
+            Transfer::Read => self.issue_read(r),
             Transfer::Flush | Transfer::Discard(_) => self.write_first(r),
         }
     }
 
-    // Writes the first word of the entry of a request without frames.
+    // Begins the grant of the first frame that is to be granted, or the entry where none is.
+    #[inline(never)]
+    fn issue_read(&self, r: &Request) -> FrontAsk<'_>
+        requires { IsShaped r.now }
+        ensures { Asks result (name_or_enter self.now r.now (first_place self.now r.now)) }
+    {
+        match self.first_place(r) {
+            Some(place) => write_frame(&r.frame(place)),
+            None => self.write_first(r),
+        }
+    }
+
+    // The first of its frames from this place on whose grant isn't kept.
+    fn ungranted(&self, r: &Request, place: u32) -> Option<u32>
+        ensures value { result ≡ ungranted self.now r.now place }
+        ensures within { IfSome result (λ place. place < 962) }
+    {
+        let frames = r.frames.as_slice();
+        let place = self.kept.untaken_from(frames, place as usize)?;
+        Some(place as u32)
+    }
+
+    // The place of its frame that is granted first, where one is to be.
+    fn first_place(&self, r: &Request) -> Option<u32>
+        ensures value { result ≡ first_place self.now r.now }
+        ensures within { IfSome result (λ place. place < 962) }
+    {
+        if self.offers.persistent {
+            self.ungranted(r, 0)
+        } else {
+            Some(0)
+        }
+    }
+
+    // The place of its frame that is granted next, from this place on.
+    fn next_place(&self, r: &Request, place: u32) -> Option<u32>
+        ensures value { result ≡ next_place self.now r.now place }
+        ensures within { IfSome result (λ place. place < 962) }
+    {
+        if self.offers.persistent {
+            self.ungranted(r, place)
+        } else if place < r.frames.len() as u32 {
+            Some(place)
+        } else {
+            None
+        }
+    }
+
+    // Writes the first word of the entry of a request that has no frame to be granted.
     #[inline(never)]
     #[tactic(auto, using(crate::proofs::Shapes::wide_entries))]
     fn write_first(&self, r: &Request) -> FrontAsk<'_>
@@ -267,11 +320,22 @@ impl Front {
 
     // Grants its frame of this place.
     fn grant_frame(&self, place: u32) -> FrontAsk<'_>
-        ensures { Asks result (grant_ask (next_request self.now) place) }
+        ensures { Asks result (grant_ask_as self.now.offers.persistent (next_request self.now) place) }
     {
         match self.next_request() {
-            Some(r) => write_flags(&r.frame(place), r.flags_at(place)),
+            Some(r) => write_flags(&r.frame(place), self.flags_at(r, place)),
             None => FrontAsk::Wait,
+        }
+    }
+
+    // The flags of its grant: one that is kept is for reading and writing.
+    fn flags_at(&self, r: &Request, place: u32) -> u32
+        ensures { result ≡ flags_as self.now.offers.persistent r.now place }
+    {
+        if self.offers.persistent {
+            GTF_PERMIT_ACCESS
+        } else {
+            r.flags_at(place)
         }
     }
 
@@ -426,20 +490,21 @@ fn end_page_grant<'a>(page: u32, old: u32) -> FrontAsk<'a>
 
 impl<'a> Endpoint<'a> for Front {
     ghost use Rattle.std.specs.Prelude.{None};
-    ghost use Rattle.blk_front.specs.Ask.{ask_of, IsAnswer};
+    ghost use Rattle.blk_front.specs.Ask.{IsAnswer};
+    ghost use Rattle.blk_front.specs.Keep.{ask_as};
 
     type Ask = FrontAsk<'a>;
 
     type Answer = FrontAnswer<'a>;
 
-    ghost asked = { ask_of };
+    ghost asked = { ask_as };
 
-    ghost MayTell = { λ front answer. IsAnswer (ask_of front) answer × (front.told ≡ None) };
+    ghost MayTell = { λ front answer. IsAnswer (ask_as front) answer × (front.told ≡ None) };
 
     #[inline(always)]
     #[tactic(auto, using(crate::proofs::Shapes::few_pages))]
     fn ask(&'a self) -> FrontAsk<'a>
-        ensures value { result ≡ ask_of self.now }
+        ensures value { result ≡ ask_as self.now }
         ensures within { StaysInMemory result }
     {
         match self.stage {
@@ -472,6 +537,8 @@ impl<'a> Endpoint<'a> for Front {
             FrontStage::LookAgain => read(place::RING_FRAME, RSP_PROD),
             FrontStage::RingRead(page) => read_page_grant(page),
             FrontStage::RingEnd(page, seen) => end_page_grant(page, seen),
+            FrontStage::KeptRead(frame) => read_flags(&PoolFrame::of(frame)),
+            FrontStage::KeptEnd(frame, seen) => end_grant(&PoolFrame::of(frame), seen),
             FrontStage::ClosePort => FrontAsk::ClosePort,
             FrontStage::Left | FrontStage::Closed | FrontStage::Broken(_) => FrontAsk::Wait,
         }
@@ -479,8 +546,8 @@ impl<'a> Endpoint<'a> for Front {
 
     #[inline(always)]
     fn tell(&mut self, answer: &FrontAnswer<'a>) -> Result<(), OutOfMemory>
-        requires { IsAnswer (ask_of self.old) answer.now × (self.old.told ≡ None) }
-        ensures completed { self.new ≡ step_of self.old answer.now }
+        requires { IsAnswer (ask_as self.old) answer.now × (self.old.told ≡ None) }
+        ensures completed { self.new ≡ step_as self.old answer.now }
         ensures takes_no_memory { IsOk result }
     {
         match (self.stage, answer) {
@@ -520,6 +587,10 @@ impl<'a> Endpoint<'a> for Front {
             ),
             (FrontStage::RingEnd(page, seen), FrontAnswer::Word(word)) => {
                 self.ended_ring_grant(page, seen, *word);
+            }
+            (FrontStage::KeptRead(frame), FrontAnswer::Word(word)) => self.read_kept(frame, *word),
+            (FrontStage::KeptEnd(frame, seen), FrontAnswer::Word(word)) => {
+                self.ended_kept(frame, seen, *word);
             }
             (FrontStage::ClosePort, _) => self.stage = FrontStage::Left,
             _ => {}

@@ -1,6 +1,6 @@
 // The frames that the front's requests use.
-ghost use Rattle.std.specs.Prelude.{◌≡◌, ◌+◌, ◌≤◌, ◌<◌, IfSome, length, not, position};
-ghost use Rattle.blk_front.specs.Pool.{lowest_of, with_taken, with_free, with_all_free, empty_pool};
+ghost use Rattle.std.specs.Prelude.{◌≡◌, ◌+◌, ◌≤◌, ◌<◌, IfSome, drop, length, not, position};
+ghost use Rattle.blk_front.specs.Pool.{lowest_of, is_taken, taken_from, untaken_from, with_taken, with_free, with_all_free, empty_pool};
 
 use std::marker::Model;
 
@@ -32,6 +32,15 @@ impl Default for PoolFrame {
 }
 
 impl PoolFrame {
+    // The frame of this number.
+    pub(crate) fn of(number: u32) -> PoolFrame
+        requires low { 18 ≤ number }
+        requires high { number < 1018 }
+        ensures { result ≡ number }
+    {
+        PoolFrame { number }
+    }
+
     /// The frame's number, 18 to 1017.
     pub fn number(&self) -> u32
         ensures value { result ≡ self.now }
@@ -50,7 +59,7 @@ impl PoolFrame {
     }
 }
 
-/// Which of the 1000 frames are in use, from frame 18 on.
+/// Which of the 1000 frames are in use, from frame 18 on, or which of them have a grant that is kept.
 #[derive(Clone, Copy)]
 pub struct Pool {
     taken: [bool; 1000],
@@ -88,6 +97,49 @@ impl Pool {
         }
     }
 
+    /// Whether a frame is in use.
+    pub fn has(&self, frame: &PoolFrame) -> bool
+        ensures { result ≡ is_taken self.now frame.now }
+    {
+        let number = frame.number();
+        self.taken[(number - 18) as usize]
+    }
+
+    /// The lowest frame in use from this number on, 18 to 1018; `None` exactly where none is.
+    pub fn taken_from(&self, number: u32) -> Option<PoolFrame>
+        requires low { 18 ≤ number }
+        requires high { number ≤ 1018 }
+        ensures value { result ≡ taken_from self.now number }
+    {
+        match first_taken(&self.taken[(number - 18) as usize..]) {
+            Some(more) => Some(PoolFrame {
+                number: number + more as u32,
+            }),
+            None => None,
+        }
+    }
+
+    /// The place, from this one on, of the first of these frames that isn't in use; `None` exactly where
+    /// each of them is.
+    pub fn untaken_from(&self, frames: &[PoolFrame], place: usize) -> Option<usize>
+        ensures value { result ≡ untaken_from self.now frames.now place }
+        ensures within { IfSome result (λ place. place < length frames.now) }
+    {
+        if place >= frames.len() {
+            return None;
+        }
+        let more = self.first_untaken(&frames[place..])?;
+        Some(place + more)
+    }
+
+    // The first of these frames that isn't in use.
+    fn first_untaken(&self, frames: &[PoolFrame]) -> Option<usize>
+        ensures value { result ≡ position (λ frame. not (is_taken self.now frame)) frames.now }
+        ensures within { IfSome result (λ place. place < length frames.now) }
+    {
+        frames.iter().position(|frame| !self.has(frame))
+    }
+
     /// Takes a frame into use.
     pub fn take(&mut self, frame: &PoolFrame)
         ensures { self.new ≡ with_taken self.old frame.now }
@@ -120,4 +172,12 @@ fn first_free(taken: &[bool]) -> Option<usize>
     ensures within { IfSome result (λ place. place < length taken.now) }
 {
     taken.iter().position(|t| !*t)
+}
+
+// The first place that is taken.
+fn first_taken(taken: &[bool]) -> Option<usize>
+    ensures value { result ≡ position (λ t. t) taken.now }
+    ensures within { IfSome result (λ place. place < length taken.now) }
+{
+    taken.iter().position(|t| *t)
 }

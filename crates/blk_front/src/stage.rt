@@ -65,11 +65,15 @@ pub enum FrontStage {
     LookAgain,
     /// Leaves: ends the grants of the ring's pages, one after another. It reads the first word of the
     /// entry of this page's frame, 0 to 15, and exchanges it for 0 if it is still this one; then it
-    /// closes its port.
+    /// ends the grants that it kept, and closes its port.
     RingRead(u32),
     RingEnd(u32, u32),
+    /// Ends the kept grant of the pool's frame of this number, 18 to 1017, after those of the ring:
+    /// reads its entry's first word, and exchanges it for 0 if it is still this one.
+    KeptRead(u32),
+    KeptEnd(u32, u32),
     ClosePort,
-    /// Has ended the ring's grants and closed its port.
+    /// Has ended its grants and closed its port.
     Left,
     /// Is closed (XenbusStateClosed of `io/xenbus.h`), and does nothing more.
     Closed,

@@ -4,8 +4,9 @@ ghost use Rattle.blk_front.specs.View.{no_offers};
 
 /// What the back published, as it was read (`io/blkif.h`): its disk's sectors of 512 bytes (`sectors`)
 /// and whether it is read-only (`info`), what it serves beside reads and writes (`feature-barrier`,
-/// `feature-flush-cache` and `feature-discard`), and how many segments it takes in indirect pages, 0
-/// where it takes none (`feature-max-indirect-segments`).
+/// `feature-flush-cache` and `feature-discard`), how many segments it takes in indirect pages, 0 where it takes none
+/// (`feature-max-indirect-segments`), and whether grants are kept, since both ends published so
+/// (`feature-persistent`).
 #[derive(Clone, Copy, Debug, PartialEq, Eq)]
 pub struct Offers {
     pub sectors: u64,
@@ -14,10 +15,11 @@ pub struct Offers {
     pub flush: bool,
     pub discard: bool,
     pub indirect: u32,
+    pub persistent: bool,
 }
 
 impl Offers {
-    /// Nothing is read yet: a disk of no sectors, and reads and writes alone.
+    /// Nothing is read yet: a disk of no sectors, reads and writes alone, and no grant is kept.
     pub fn none() -> Offers
         ensures { result ≡ no_offers }
     {
@@ -28,6 +30,7 @@ impl Offers {
             flush: false,
             discard: false,
             indirect: 0,
+            persistent: false,
         }
     }
 }
@@ -42,7 +45,8 @@ pub enum FrontState {
     Connected(Offers),
     /// It takes no more requests (XenbusStateClosing is written once it has none left).
     Closing,
-    /// The back is gone: the front ends the grants of its ring, and closes its port.
+    /// The back is gone: the front ends the grants of its ring and those that it kept, and closes its
+    /// port.
     Leaving,
     /// It is closed (XenbusStateClosed).
     Closed,

@@ -2,10 +2,12 @@
 ghost use Rattle.std.specs.Prelude.{◌≡◌, ◌<◌, ◌≤◌, ◌+◌, ◌-◌, ◌*◌, ◌/◌, ◌^◌, length, position, slice_get, IfSome, Some, ◌==◌, true};
 ghost use Rattle.blk_base.specs.declared.ask.FrontAnswer.TheVariants.{Word, Done};
 ghost use Rattle.blk_front.specs.declared.stage.FrontStage.TheVariants as stage;
+ghost use Rattle.blk_front.specs.Pool.{taken_from};
 ghost use Rattle.blk_front.specs.View.{next_request};
-ghost use Rattle.blk_front.specs.Ask.{loop_ask, IsAnswer};
+ghost use Rattle.blk_front.specs.Ask.{IsAnswer};
+ghost use Rattle.blk_front.specs.Keep.{step_as_at, loop_ask_as, loop_step_as, begun_as, named_or_entered, first_place, grants, next_place, data_next, page_next, with_grant, granted_as, ended_now, response_step_as, ring_ended_as, kept_stage, kept_read, kept_ended};
 ghost use Rattle.blk_front.specs.Sound.{AreAscending};
-ghost use Rattle.blk_front.specs.Step.{step_at, loop_step, loop_word, looked, broken, found_at, issued, taken, response_step, end_step, exchanged, ring_read, ring_ended, ended, finished, pushed, data_step, left_step, begun, IsTaking, IsRevoking, IsEndingStage};
+ghost use Rattle.blk_front.specs.Step.{step_at, loop_word, looked, broken, found_at, issued, taken, response_step, end_step, exchanged, ring_read, at, finished, pushed, data_step, left_step, IsTaking, IsRevoking, IsEndingStage};
 ghost use Rattle.blk_front.specs.Request.{IsShaped, is_indirect};
 ghost use Rattle.blk_front.specs.Inside.{held};
 ghost use Rattle.blk_front.specs.declared.told.Told.TheVariants.{Sector};
@@ -17,6 +19,7 @@ ghost use Rattle.blk_front.specs.declared.request.Request.{Request};
 
 use super::Front;
 use crate::frames::SpareLists;
+use crate::pool::PoolFrame;
 use crate::request::{Request, SECTOR_WORDS, Transfer, frames_for, is_indirect};
 use crate::stage::{Ending, FrontStage};
 use crate::told::Told;
@@ -55,8 +58,8 @@ impl Front {
     /// Begins the next step of the loop.
     pub(super) fn begin(&mut self, answer: &FrontAnswer)
         requires stage { self.old.stage ≡ stage.Loop }
-        requires kind { IsAnswer (loop_ask self.old (next_request self.old)) answer.now }
-        ensures { self.new ≡ loop_step self.old (next_request self.old) answer.now }
+        requires kind { IsAnswer (loop_ask_as self.old (next_request self.old)) answer.now }
+        ensures { self.new ≡ loop_step_as self.old (next_request self.old) answer.now }
     {
         match (self.next_request(), answer) {
             (Some(_), _) => self.issued_first(),
@@ -69,7 +72,7 @@ impl Front {
     // The first word of the request that is issued next was written.
     fn issued_first(&mut self)
         requires { self.old.stage ≡ stage.Loop }
-        ensures { IfSome (next_request self.old) (λ r. self.new ≡ begun self.old r r.transfer) }
+        ensures { IfSome (next_request self.old) (λ r. self.new ≡ begun_as self.old r r.transfer) }
     {
         let Some(r) = self.next_request() else {
             return;
@@ -77,8 +80,25 @@ impl Front {
         match r.transfer {
             Transfer::Write(_) | Transfer::Barrier(_) => self.stage = FrontStage::Data(1),
             Transfer::Read if is_indirect(r.count) => self.stage = FrontStage::Pages(1),
-            Transfer::Read => self.stage = FrontStage::GrantFence(0),
+            Transfer::Read => self.issued_read(),
             Transfer::Flush | Transfer::Discard(_) => {
+                self.ring.entry = request_words(self.abi, &wire(r));
+                self.stage = FrontStage::Slot(1);
+            }
+        }
+    }
+
+    // The grant of its first frame that is to be granted was begun, or its entry where none is.
+    fn issued_read(&mut self)
+        requires { self.old.stage ≡ stage.Loop }
+        ensures { IfSome (next_request self.old) (λ r. self.new ≡ named_or_entered self.old r (first_place self.old r)) }
+    {
+        let Some(r) = self.next_request() else {
+            return;
+        };
+        match self.first_place(r) {
+            Some(place) => self.stage = FrontStage::GrantFence(place),
+            None => {
                 self.ring.entry = request_words(self.abi, &wire(r));
                 self.stage = FrontStage::Slot(1);
             }
@@ -154,15 +174,57 @@ impl Front {
     pub(super) fn ended_ring_grant(&mut self, page: u32, seen: u32, word: u32)
         requires stage { self.old.stage ≡ stage.RingEnd page seen }
         requires placed { page < 2 ^ self.old.shape.order }
-        ensures { self.new ≡ ring_ended self.old page seen word }
+        ensures { self.new ≡ ring_ended_as self.old page seen word }
     {
         let pages = self.pages();
         if word != seen {
             self.break_with(word);
         } else if page + 1 < pages {
             self.stage = FrontStage::RingRead(page + 1);
+        } else if self.offers.persistent {
+            self.end_kept(18);
         } else {
             self.stage = FrontStage::ClosePort;
+        }
+    }
+
+    // The kept grant of the lowest frame from this one on is ended next, or the port is closed.
+    fn end_kept(&mut self, frame: u32)
+        requires keeps { self.old.offers.persistent ≡ true }
+        requires low { 18 ≤ frame }
+        requires high { frame ≤ 1018 }
+        ensures { self.new ≡ at (kept_stage (taken_from self.old.kept frame)) self.old }
+    {
+        self.stage = match self.kept.taken_from(frame) {
+            Some(frame) => FrontStage::KeptRead(frame.number()),
+            None => FrontStage::ClosePort,
+        };
+    }
+
+    /// The entry of a kept grant was read.
+    #[inline(never)]
+    pub(super) fn read_kept(&mut self, frame: u32, word: u32)
+        requires stage { self.old.stage ≡ stage.KeptRead frame }
+        ensures { self.new ≡ kept_read self.old frame word }
+    {
+        if word / 8 % 4 != 0 {
+            self.break_with(word);
+        } else {
+            self.stage = FrontStage::KeptEnd(frame, word);
+        }
+    }
+
+    /// That grant was ended, if its entry was still as it was read.
+    #[inline(never)]
+    pub(super) fn ended_kept(&mut self, frame: u32, seen: u32, word: u32)
+        requires stage { self.old.stage ≡ stage.KeptEnd frame seen }
+        ensures { self.new ≡ kept_ended self.old frame seen word }
+    {
+        if word != seen {
+            self.break_with(word);
+        } else {
+            self.kept.free(&PoolFrame::of(frame));
+            self.end_kept(frame + 1);
         }
     }
 
@@ -178,50 +240,94 @@ impl Front {
     pub(super) fn wrote_data(&mut self, n: u32)
         requires stage { self.old.stage ≡ stage.Data n }
         requires placed { n < 983040 }
-        ensures { self.new ≡ step_at (stage.Data n) self.old Done }
+        ensures { self.new ≡ data_next self.old (next_request self.old) n }
     {
         let Some(r) = self.next_request() else {
             return;
         };
-        self.stage = if n + 1 < SECTOR_WORDS * r.count {
-            FrontStage::Data(n + 1)
+        if n + 1 < SECTOR_WORDS * r.count {
+            self.stage = FrontStage::Data(n + 1);
         } else if is_indirect(r.count) {
-            FrontStage::Pages(0)
+            self.stage = FrontStage::Pages(0);
         } else {
-            FrontStage::GrantFrame(0)
+            self.grant_first();
+        }
+    }
+
+    // The first of its frames that is to be granted is granted next, or its entry is written.
+    #[inline(never)]
+    fn grant_first(&mut self)
+        ensures { IfSome (next_request self.old) (λ r. self.new ≡ grants self.old r (first_place self.old r)) }
+    {
+        if let Some(r) = self.next_request() {
+            let place = self.first_place(r);
+            self.grant(place);
+        }
+    }
+
+    // The next of them from this place on is, or its entry is written.
+    fn grant_from(&mut self, place: u32)
+        ensures { IfSome (next_request self.old) (λ r. self.new ≡ grants self.old r (next_place self.old r place)) }
+    {
+        if let Some(r) = self.next_request() {
+            let place = self.next_place(r, place);
+            self.grant(place);
+        }
+    }
+
+    // Its frame of this place is granted next; where there is none its entry is written.
+    fn grant(&mut self, place: Option<u32>)
+        requires { IfSome place (λ place. place < 962) }
+        ensures { IfSome (next_request self.old) (λ r. self.new ≡ grants self.old r place) }
+    {
+        let Some(r) = self.next_request() else {
+            return;
         };
+        match place {
+            Some(place) => self.stage = FrontStage::GrantFrame(place),
+            None => {
+                self.ring.entry = request_words(self.abi, &wire(r));
+                self.stage = FrontStage::Slot(0);
+            }
+        }
     }
 
     #[inline(never)]
     pub(super) fn wrote_page(&mut self, n: u32)
         requires stage { self.old.stage ≡ stage.Pages n }
         requires placed { n < 1920 }
-        ensures { self.new ≡ step_at (stage.Pages n) self.old Done }
+        ensures { self.new ≡ page_next self.old (next_request self.old) n }
     {
         let Some(r) = self.next_request() else {
             return;
         };
-        self.stage = if n + 1 < r.naming_words() {
-            FrontStage::Pages(n + 1)
+        if n + 1 < r.naming_words() {
+            self.stage = FrontStage::Pages(n + 1);
         } else {
-            FrontStage::GrantFrame(0)
-        };
+            self.grant_first();
+        }
     }
 
     #[inline(never)]
     pub(super) fn granted(&mut self, place: u32)
         requires stage { self.old.stage ≡ stage.GrantFlags place }
         requires placed { place < 962 }
-        ensures { self.new ≡ step_at (stage.GrantFlags place) self.old Done }
+        ensures { self.new ≡ granted_as (next_request self.old) place self.old }
     {
         let Some(r) = self.next_request() else {
             return;
         };
-        if place + 1 < r.frames.len() as u32 {
-            self.stage = FrontStage::GrantFrame(place + 1);
-        } else {
-            self.ring.entry = request_words(self.abi, &wire(r));
-            self.stage = FrontStage::Slot(0);
+        let frame = r.frame(place);
+        self.keep(&frame);
+        self.grant_from(place + 1);
+    }
+
+    // A frame was granted; where grants are kept it stays so.
+    fn keep(&mut self, frame: &PoolFrame)
+        ensures { self.new ≡ with_grant self.old frame.now }
+    {
+        if self.offers.persistent {
+            self.kept.take(frame);
         }
     }
 
@@ -267,9 +373,21 @@ impl Front {
         self.requests.find(count, id)
     }
 
-    /// A response was read whole.
+    /// A response was read whole. A request whose grants are kept is answered at once.
     #[inline(never)]
     pub(super) fn take_response(&mut self, low: u32, high: u32, last: u32)
+        requires { self.old.stage ≡ stage.ResponseLast low high }
+        ensures { self.new ≡ response_step_as self.old low high last }
+    {
+        let keeps = self.offers.persistent;
+        self.take_answer(low, high, last);
+        if keeps && matches!(self.stage, FrontStage::GrantRead(_)) {
+            self.answer();
+        }
+    }
+
+    // The request of a response is ending, or answered where it has no frames.
+    fn take_answer(&mut self, low: u32, high: u32, last: u32)
         requires { self.old.stage ≡ stage.ResponseLast low high }
         ensures { self.new ≡ response_step self.old low high last }
     {
@@ -338,10 +456,10 @@ impl Front {
         }
     }
 
-    // The last grant of the ending request was ended: its answer is told.
+    // No grant of the ending request is to be ended any more: its answer is told.
     fn answer(&mut self)
         requires { IsRevoking self.old.stage }
-        ensures { IfSome self.old.ending (λ e. self.new ≡ ended e self.old) }
+        ensures { self.new ≡ ended_now self.old.ending self.old }
     {
         let Some(ending) = &self.ending else {
             return;

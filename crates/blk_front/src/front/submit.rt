@@ -4,8 +4,8 @@ ghost use Rattle.blk_front.specs.Suspend.{is_left};
 ghost use Rattle.ring_words.specs.Shape.{entries_of};
 ghost use Rattle.blk_front.specs.declared.request.Request.{Request};
 ghost use Rattle.blk_front.specs.Request.{IsShaped, IsCounted, is_moving};
-ghost use Rattle.blk_front.specs.Ask.{ask_of};
-ghost use Rattle.blk_front.specs.Submit.{submit_of, submit_one, is_ready, is_connected, is_initialised, is_idle, wish_of, submit_with, most_segments, frames_taken, unfinished, ending_of, ending_sectors, sectors_owed, is_wait};
+ghost use Rattle.blk_front.specs.Keep.{ask_as, is_idle_as};
+ghost use Rattle.blk_front.specs.Submit.{submit_of, submit_one, is_ready, is_connected, is_initialised, wish_of, submit_with, most_segments, frames_taken, unfinished, ending_of, ending_sectors, sectors_owed, is_wait};
 ghost use Rattle.blk_front.specs.Pool.{taking};
 
 use super::Front;
@@ -140,7 +140,7 @@ impl Front {
     /// Whether it is connected, closed or broken, and asks for nothing but an event.
     #[inline(always)]
     pub fn idle(&self) -> bool
-        ensures { result ≡ is_idle self.now }
+        ensures { result ≡ is_idle_as self.now }
     {
         // Most moves are of a sector's words, and no such move waits.
         if let FrontStage::Data(_) = self.stage {
@@ -155,7 +155,7 @@ impl Front {
     // The same, at any stage.
     #[inline(never)]
     fn waits(&self) -> bool
-        ensures { result ≡ is_idle self.now }
+        ensures { result ≡ is_idle_as self.now }
     {
         !matches!(self.stage, FrontStage::Initialised | FrontStage::Left)
             && matches!(self.ask(), FrontAsk::Wait)
@@ -244,6 +244,8 @@ fn is_ready(stage: FrontStage) -> bool
         | FrontStage::LeftData(_) => false,
         FrontStage::RingRead(_)
         | FrontStage::RingEnd(_, _)
+        | FrontStage::KeptRead(_)
+        | FrontStage::KeptEnd(_, _)
         | FrontStage::ClosePort
         | FrontStage::Left
         | FrontStage::Closed

@@ -5,6 +5,7 @@ ghost use Rattle.blk_front.specs.Submit.{ending_of};
 ghost use Rattle.blk_front.specs.Suspend.{with_ending, requests_after, ending_after, stage_after, suspended};
 
 use super::Front;
+use crate::pool::Pool;
 use crate::request::Request;
 use crate::stage::{Ending, FrontStage};
 use crate::state::Offers;
@@ -27,6 +28,7 @@ impl Front {
         self.offers = Offers::none();
         self.ring.indices = FrontRing::attach(RingShape::of(self.abi, self.order), self.start);
         self.stage = stage_after(self.stage);
+        self.kept = Pool::new();
         self.ring.asleep = false;
         self.ring.seen = self.start;
         self.waiting = self.requests.len() as u32;

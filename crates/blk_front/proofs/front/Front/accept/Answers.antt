@@ -19,6 +19,7 @@ invariant_of-self-2 c =
         room = grind (arith, few_pages);
         seen = sound.seen;
         placed = sound.placed;
+        keeping = sound.keeping;
         unissued = search rules;
         issuing = search rules;
         reading = sound.reading;

@@ -17,7 +17,7 @@ invariant_of-self c =
     let counted = after_counted c.self.inside.stage c.self.inside.ending c.self.inside.requests.held in
     let waiting : c.len.result ≡ length (requests_after c.self.inside.stage c.self.inside.ending c.self.inside.requests.held) = search rules in
     let ring = c.attach-self-inside.ensures in (
-      rw (c.none-self-inside.ensures, ring, c.of.ensures, c.stage_after-self-inside.ensures, waiting, requests, ending) (resumed_sound (view_of c.self.inside) word c.self.invariant.0),
+      rw (c.none-self-inside.ensures, c.new-self-inside.ensures, ring, c.of.ensures, c.stage_after-self-inside.ensures, waiting, requests, ending) (resumed_sound (view_of c.self.inside) word c.self.invariant.0),
       omega (arith, c.put_back.ensures.room, c.self.invariant.1),
       record { enough = rw (requests, ending) (omega (arith, counted, c.self.invariant.2.enough)); room = rw (requests, ending) (omega (arith, counted, c.self.invariant.2.room)) },
     )
