@@ -110,6 +110,8 @@ stays (stage.RingRead page) v (answer.Word word) h c = either (is_mapped word) (
 stays (stage.RingRead page) v a h c = h
 stays (stage.RingEnd page before) v (answer.Word word) h c = either (word == before) (at (ring_left v page) v) (broken word v) (staged (nat_lt (page + 1) (2 ^ v.shape.order)) (stage.RingRead (page + 1)) stage.ClosePort refl refl) refl
 stays (stage.RingEnd page before) v a h c = h
+stays (stage.KeptRead frame) v a h c = h
+stays (stage.KeptEnd frame seen) v a h c = h
 stays stage.Initialised v a h c = h
 stays stage.Left v a h c = h
 stays stage.Closed v a h c = h

@@ -39,9 +39,9 @@ bus_after v a = bus_told (is_unoccupied v.ring) v.bus a
 abbrev pub news_of : View → FrontAnswer → Option FrontNews
 news_of v a = bus.news_of v.bus (is_unoccupied v.ring) a
 
--- the disk's sectors and whether it is read-only, what the back serves beside reads and writes, and how many segments it takes in indirect pages, as the negotiation read it
+-- the disk's sectors and whether it is read-only, what the back serves beside reads and writes, and how many segments it takes in indirect pages, as the negotiation read it; this front doesn't offer to keep grants yet
 abbrev pub offers_of : FrontView → Offers
-offers_of v = record { sectors = v.disk.sectors; read_only = v.disk.read_only; barrier = v.features.barrier; flush = v.features.flush; discard = v.features.discard; indirect = v.features.indirect }
+offers_of v = record { sectors = v.disk.sectors; read_only = v.disk.read_only; barrier = v.features.barrier; flush = v.features.flush; discard = v.features.discard; indirect = v.features.indirect; persistent = false }
 
 -- the states that the end of the ring enters: the one that the negotiation comes to; where the ring is made next its order is agreed, and where its grants are ended next, since the back is gone, it leaves
 abbrev pub state_of_news : Offers → FrontNews → FrontState

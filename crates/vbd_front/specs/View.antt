@@ -1,5 +1,5 @@
 -- What contracts see of the frontend.
-use Rattle.std.specs.Prelude.{Bool, true, false, ◌&&◌, ◌==◌, Option, None}
+use Rattle.std.specs.Prelude.{◌≡◌, Bool, true, false, ◌&&◌, ◌==◌, Option, None}
 use Rattle.blk_base.specs.Options.{Options}
 use Rattle.blk_front.specs.View as ring
 use Rattle.blk_front.specs.declared.stage.FrontStage.{FrontStage}
@@ -16,6 +16,10 @@ pub record View : Type 0 where
   pub bus : bus.FrontView
   pub news : Option FrontNews
 
+-- its end of the ring keeps no grants: this front doesn't offer that yet
+abbrev pub IsUnkept : ring.View → Type 0
+IsUnkept v = v.offers.persistent ≡ false
+
 -- a frontend that sets its watch first
 abbrev pub start_of : Options → View
 start_of config = record { ring = ring.start_of config; bus = bus.start_of config; news = None }
@@ -31,6 +35,8 @@ is_still ring_stage.Initialised = true
 is_still ring_stage.Loop = true
 is_still (ring_stage.RingRead page) = true
 is_still (ring_stage.RingEnd page seen) = true
+is_still (ring_stage.KeptRead frame) = true
+is_still (ring_stage.KeptEnd frame seen) = true
 is_still ring_stage.ClosePort = true
 is_still ring_stage.Left = true
 is_still ring_stage.Closed = true

@@ -29,12 +29,14 @@ pub struct Ends {
 }
 
 impl Model for Ends {
-    ghost use Rattle.vbd_front.specs.View.{View};
+    ghost use Rattle.vbd_front.specs.View.{View, IsUnkept};
     ghost use Rattle.vbd_front.specs.Inside.{view_of};
 
     ghost Value = { View };
 
     ghost view = { view_of };
+
+    ghost invariant = { λ e. IsUnkept e.ring };
 }
 
 impl Ends {
@@ -100,6 +102,7 @@ impl Ends {
 
     /// What the ring's end asks.
     #[inline(always)]
+    #[tactic(auto, using(crate::proofs::Unkept::asks_plainly))]
     pub fn ring_ask(&self) -> FrontAsk<'_>
         ensures value { result ≡ ring_ask_of self.now.ring }
         ensures within { StaysInMemory result }
@@ -109,6 +112,7 @@ impl Ends {
 
     /// What the ring's end asks, where it says by itself that this is a word of a request's data.
     #[inline(always)]
+    #[tactic(auto, using(crate::proofs::Unkept::asks_plainly))]
     pub fn data_asked(&self) -> Option<FrontAsk<'_>>
         ensures value { result ≡ data_asked self.now.ring }
         ensures asked { IfSome result (λ ask. ask ≡ ring_ask_of self.now.ring) }
@@ -119,6 +123,7 @@ impl Ends {
 
     /// The ring's end was answered, of which the negotiation learns nothing.
     #[inline(always)]
+    #[tactic(auto, using(crate::proofs::Unkept::answers_plainly, crate::proofs::Unkept::steps_plainly, crate::proofs::Unkept::step_none))]
     pub fn tell_ring<'a>(&mut self, answer: &FrontAnswer<'a>)
         requires kind { IsRingAnswer (ring_ask_of self.old.ring) answer.now }
         requires told { self.old.ring.told ≡ None }
@@ -144,6 +149,7 @@ impl Ends {
     }
 
     // The negotiation was answered.
+    #[tactic(auto, using(crate::proofs::Unkept::entered_none))]
     fn take_key(&mut self, answer: &FrontAnswer)
         requires left { is_left self.old.ring.stage ≡ false }
         requires kind { IsBusAnswer (bus_ask_of self.old) answer.now }
@@ -155,7 +161,7 @@ impl Ends {
     }
 
     // The ring's end has moved.
-    #[tactic(auto, using(crate::proofs::Turns::heard))]
+    #[tactic(auto, using(crate::proofs::Turns::heard, crate::proofs::Unkept::answers_plainly, crate::proofs::Unkept::steps_plainly, crate::proofs::Unkept::step_none))]
     fn move_ring<'a>(&mut self, answer: &FrontAnswer<'a>)
         requires left { is_left self.old.ring.stage ≡ false }
         requires moves { ring_moves (bus_ask_of self.old) self.old.ring.stage ≡ true }
@@ -178,6 +184,7 @@ impl Ends {
     }
 
     /// The front is asked to close.
+    #[tactic(auto, using(crate::proofs::Unkept::entered_none))]
     pub fn close(&mut self)
         ensures { self.new ≡ closes self.old }
     {
@@ -197,6 +204,7 @@ impl Ends {
     }
 
     /// The domain was suspended and resumes.
+    #[tactic(auto, using(crate::proofs::Unkept::suspend_none))]
     pub fn suspend(&mut self)
         ensures { self.new ≡ suspended self.old }
     {
@@ -207,6 +215,7 @@ impl Ends {
     }
 
     /// Hands the ring's end a request.
+    #[tactic(auto, using(crate::proofs::Unkept::submit_none))]
     pub fn submit(&mut self, submission: Submission) -> Result<u32, Refusal>
         ensures answer { result ≡ (submit_of self.old.ring submission).0 }
         ensures front { self.new ≡ record self.old { ring = (submit_of self.old.ring submission).1 } }
@@ -216,7 +225,7 @@ impl Ends {
 
     /// Whether the ring's end asks for nothing but an event.
     #[inline(always)]
-    #[tactic(auto, using(crate::proofs::Turns::idle_or_led))]
+    #[tactic(auto, using(crate::proofs::Turns::idle_or_led, crate::proofs::Unkept::idles_plainly))]
     pub fn ring_waits(&self) -> bool
         ensures { result ≡ is_wait (ring_ask_of self.now.ring) }
     {
@@ -281,6 +290,8 @@ fn is_still(stage: FrontStage) -> bool
             | FrontStage::Loop
             | FrontStage::RingRead(_)
             | FrontStage::RingEnd(..)
+            | FrontStage::KeptRead(_)
+            | FrontStage::KeptEnd(..)
             | FrontStage::ClosePort
             | FrontStage::Left
             | FrontStage::Closed

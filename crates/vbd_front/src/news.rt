@@ -24,7 +24,8 @@ pub fn tell(bus: &mut FrontBus, idle: bool, answer: &FrontAnswer) -> Option<Fron
 }
 
 /// The disk's sectors and whether it is read-only, what the back serves beside reads and writes, and
-/// how many segments it takes in indirect pages, as the negotiation read it.
+/// how many segments it takes in indirect pages, as the negotiation read it. This front doesn't offer
+/// to keep grants yet.
 pub fn offers(bus: &FrontBus) -> Offers
     ensures { result ≡ offers_of bus.now }
 {
@@ -37,6 +38,7 @@ pub fn offers(bus: &FrontBus) -> Offers
         flush: features.flush,
         discard: features.discard,
         indirect: features.indirect,
+        persistent: false,
     }
 }
 
