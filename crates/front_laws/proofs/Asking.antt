@@ -173,6 +173,8 @@ stage_touches s v quiet stage.LookAgain i = index_read s 2 (omega arith)
 stage_touches s v quiet (stage.RingRead page) i = let own = page_own v page i.agree.few i.at.0 in grants_read s (ring_page_frame page) own.1
 stage_touches s v quiet (stage.RingEnd page before) i = let own = page_own v page i.agree.few i.at.0 in grants_end s (ring_page_frame page) before own.0 own.1
 stage_touches s v quiet stage.ClosePort i = (tt, tt)
+stage_touches s v quiet (stage.KeptRead frame) i = (tt, tt)
+stage_touches s v quiet (stage.KeptEnd frame seen) i = (tt, tt)
 stage_touches s v quiet stage.Left i = (tt, tt)
 stage_touches s v quiet stage.Closed i = (tt, tt)
 stage_touches s v quiet (stage.Broken word) i = (tt, tt)

@@ -12,6 +12,7 @@ use Rattle.blk_front.specs.declared.stage.FrontStage.{FrontStage}
 use Rattle.blk_front.specs.declared.stage.FrontStage.TheVariants as stage
 use Rattle.blk_front.specs.declared.stage.Ending.{Ending}
 use Rattle.blk_front.specs.Sound.{AreAscending}
+use Rattle.blk_front.specs.Pool.{empty_pool}
 use Rattle.blk_front.specs.State.{is_open, is_made, is_unmade, may_enter, in_state}
 use Rattle.blk_front.specs.Submit.{is_ready, is_initialised}
 use Rattle.blk_front.specs.Suspend.{resumed, with_ending, requests_after, ending_after, stage_after}
@@ -123,6 +124,7 @@ resumed_at t v = record v {
   waiting = length (requests_after t v.ending v.requests);
   requests = requests_after t v.ending v.requests;
   ending = ending_after t v.ending;
+  kept = empty_pool;
 }
 
 module _ (s : Sight) (v : View) (agree : Agree (core_of s) (share_of v)) (sized : IsSized v.pool v.words) where

@@ -115,6 +115,8 @@ module _ (v : View) (sound : IsSound v) where
   lowers (stage.RingRead page) (answer.Word word) here i low ok = omega (arith, leave_lowers v page word (placed (stage.RingRead page) here))
   lowers (stage.RingEnd page before) (answer.Word word) here i low ok = omega (arith, end_lowers v page before word (placed (stage.RingEnd page before) here))
   lowers stage.ClosePort a here i low ok = omega arith
+  lowers (stage.KeptRead frame) a here i low ok = still_lowers (stage.KeptRead frame) v a here ok
+  lowers (stage.KeptEnd frame seen) a here i low ok = still_lowers (stage.KeptEnd frame seen) v a here ok
   lowers stage.Left a here i low ok = still_lowers stage.Left v a here ok
   lowers stage.Closed a here i low ok = still_lowers stage.Closed v a here ok
   lowers (stage.Broken word) a here i low ok = still_lowers (stage.Broken word) v a here ok

@@ -157,6 +157,8 @@ module _ (s : Sight) (v : View) (quiet : v.told ≡ None) where
   stage_goes (stage.RingEnd page before) a here i is = absurd is
   stage_goes stage.ClosePort a here i is = calm s (at stage.Left v) quiet (to i.agree i.sized stage.Left i.at)
   stage_goes stage.Initialised a here i is = waits stage.Initialised a here i
+  stage_goes (stage.KeptRead frame) a here i is = waits (stage.KeptRead frame) a here i
+  stage_goes (stage.KeptEnd frame seen) a here i is = waits (stage.KeptEnd frame seen) a here i
   stage_goes stage.Left a here i is = waits stage.Left a here i
   stage_goes stage.Closed a here i is = waits stage.Closed a here i
   stage_goes (stage.Broken word) a here i is = waits (stage.Broken word) a here i

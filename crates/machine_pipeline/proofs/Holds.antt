@@ -269,6 +269,8 @@ FrontAt shape start pushed taken front_seen submitted replies next entry ending 
 FrontAt shape start pushed taken front_seen submitted replies next entry ending (front.RingRead page) = ⊥
 FrontAt shape start pushed taken front_seen submitted replies next entry ending (front.RingEnd page before) = ⊥
 FrontAt shape start pushed taken front_seen submitted replies next entry ending front.ClosePort = ⊥
+FrontAt shape start pushed taken front_seen submitted replies next entry ending (front.KeptRead frame) = ⊥
+FrontAt shape start pushed taken front_seen submitted replies next entry ending (front.KeptEnd frame seen) = ⊥
 FrontAt shape start pushed taken front_seen submitted replies next entry ending front.Left = ⊥
 FrontAt shape start pushed taken front_seen submitted replies next entry ending front.Closed = ⊥
 FrontAt shape start pushed taken front_seen submitted replies next entry ending (front.Broken word) = ⊥

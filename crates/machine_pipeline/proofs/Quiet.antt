@@ -80,6 +80,8 @@ front_sleeps shape start pushed taken seen submitted replies entry v (front.Left
 front_sleeps shape start pushed taken seen submitted replies entry v front.Closed ready waits at = absurd at
 front_sleeps shape start pushed taken seen submitted replies entry v (front.Broken word) ready waits at = absurd at
 front_sleeps shape start pushed taken seen submitted replies entry v front.Initialised ready waits at = absurd (true≢false (sym ready))
+front_sleeps shape start pushed taken seen submitted replies entry v (front.KeptRead frame) ready waits at = absurd at
+front_sleeps shape start pushed taken seen submitted replies entry v (front.KeptEnd frame before) ready waits at = absurd at
 front_sleeps shape start pushed taken seen submitted replies entry v front.Left ready waits at = absurd (true≢false (sym ready))
 front_sleeps shape start pushed taken seen submitted replies entry v s ready waits at = absurd (true≢false (sym waits))
 
