@@ -31,10 +31,12 @@ use Rattle.split_model.proofs.Suspending.{front_cases}
 use Rattle.report_laws.proofs.Announced.{IsAnnounced, all_said}
 use Rattle.report_laws.proofs.Submitted.{submit_cases}
 
--- it reads data of no request
+-- it reads data of no request, or ends a kept grant, of which it has none
 abbrev pub lacks : FrontStage → Option Ending → Bool
 lacks (stage.ReadData n) None = true
 lacks (stage.LeftData n) None = true
+lacks (stage.KeptRead frame) ending = true
+lacks (stage.KeptEnd frame seen) ending = true
 lacks s ending = false
 
 abbrev Holds : View → Type 0

@@ -17,7 +17,7 @@ use Rattle.blk_front.specs.declared.request.Request.{Request}
 use Rattle.blk_front.specs.declared.stage.FrontStage.{FrontStage}
 use Rattle.blk_front.specs.declared.stage.FrontStage.TheVariants as stage
 use Rattle.blk_front.specs.Request.{is_moving, IsShaped}
-use Rattle.blk_front.specs.Sound.{IsPlaced, IsUnissued, IsIssuing, IsReading, IsHeld}
+use Rattle.blk_front.specs.Sound.{IsPlaced, IsKeeping, IsUnissued, IsIssuing, IsReading, IsHeld}
 use Rattle.blk_front.specs.Submit.{is_connected, ending_of}
 use Rattle.blk_front.specs.View.{View, next_request}
 use Rattle.blk_front.specs.Ask.{ask_at, loop_ask, response_ask, is_through}
@@ -102,6 +102,7 @@ module _ (config : Options) (w : World) (g : Flow) (d : Pipeline) (s : FrontStag
           room = subst (λ (y : Shape). length w.front.requests + ending_of w.front.stage ≤ entries_of y.order) (sym same_shape) (rw e x.room);
           seen = omega (arith, distance_seen, distance_pushed, x.front_to, x.replied_fetched, x.fetched_pushed);
           placed = subst (λ (t : FrontStage). IsPlaced t w.front.shape) (sym here) tt;
+          keeping = subst (λ (t : FrontStage). IsKeeping t w.front.offers.persistent) (sym here) tt;
           unissued = subst (λ (t : FrontStage). IsUnissued t (length w.front.requests) w.front.waiting) (sym here) tt;
           issuing = subst (λ (t : FrontStage). IsIssuing t w.front.waiting) (sym here) tt;
           reading = subst (λ (t : FrontStage). IsReading t (distance_of w.front.ring.indices.cons w.front.ring.seen)) (sym here) some;
