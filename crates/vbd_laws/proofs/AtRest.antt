@@ -77,6 +77,8 @@ still_closing true (Some p) s rests = absurd rests
 
 ready_unled : (s : FrontStage) → is_ready s ≡ true → is_led s ≡ false
 ready_unled ring_stage.Initialised ready = absurd (true≢false (sym ready))
+ready_unled (ring_stage.KeptRead frame) ready = absurd (true≢false (sym ready))
+ready_unled (ring_stage.KeptEnd frame seen) ready = absurd (true≢false (sym ready))
 ready_unled ring_stage.Left ready = absurd (true≢false (sym ready))
 ready_unled s ready = refl
 

@@ -19,7 +19,7 @@ use Rattle.blk_front.specs.declared.stage.Ending.{Ending}
 use Rattle.blk_front.specs.declared.state.FrontState.{FrontState}
 use Rattle.blk_front.specs.declared.state.FrontState.TheVariants as enter
 use Rattle.blk_base.specs.declared.refusal.Refusal.{Refusal}
-use Rattle.blk_front.specs.Pool.{taking, with_taken}
+use Rattle.blk_front.specs.Pool.{empty_pool, taking, with_taken}
 use Rattle.blk_front.specs.Request.{is_write, named_of, frames_for}
 use Rattle.blk_front.specs.State.{is_open, is_unmade, is_made, may_enter, in_state, enters}
 use Rattle.blk_front.specs.Submit.{is_ready, is_initialised, unfinished, wish_of, most_segments, frames_taken, request_with, accepted, submit_with, submit_one, submit_of}
@@ -167,6 +167,7 @@ resumed_at t v = record v {
   waiting = length (requests_after t v.ending v.requests);
   requests = requests_after t v.ending v.requests;
   ending = ending_after t v.ending;
+  kept = empty_pool;
 }
 
 again : (o : Option Ending) (requests : List Request) → with_going (request_of o) requests ≡ with_ending o requests

@@ -183,6 +183,8 @@ still_going ring_stage.Loop s f still known = (refl, let agree = known.agree in 
 still_going (ring_stage.RingRead page) s f still known = (refl, let agree = known.agree in none_left s.owed f.requests (λ n. let all = agree.owed n in omega arith))
 still_going (ring_stage.RingEnd page seen) s f still known = (refl, let agree = known.agree in none_left s.owed f.requests (λ n. let all = agree.owed n in omega arith))
 still_going ring_stage.ClosePort s f still known = (refl, let agree = known.agree in none_left s.owed f.requests (λ n. let all = agree.owed n in omega arith))
+still_going (ring_stage.KeptRead frame) s f still known = (refl, let agree = known.agree in none_left s.owed f.requests (λ n. let all = agree.owed n in omega arith))
+still_going (ring_stage.KeptEnd frame seen) s f still known = (refl, let agree = known.agree in none_left s.owed f.requests (λ n. let all = agree.owed n in omega arith))
 still_going ring_stage.Left s f still known = (refl, let agree = known.agree in none_left s.owed f.requests (λ n. let all = agree.owed n in omega arith))
 still_going ring_stage.Closed s f still known = (refl, let agree = known.agree in none_left s.owed f.requests (λ n. let all = agree.owed n in omega arith))
 still_going t s f still known = absurd (true≢false (sym still))

@@ -334,6 +334,8 @@ module _ (s : FrontSight) (v : View) (h : Hypervisor) (a : FrontAct) (quiet : v.
       (grant_goes s v quiet (reference_of (2 + page)) _ (stage.RingEnd page _) (omega arith) (record { agree = known.agree; at = known.at })) e
   ring_goes (stage.RingEnd page old) here known e = of_front (Goes (step_at (stage.RingEnd page old) v)) _ a (exchange_goes s v quiet _ _ old _ _ (ring_end_goes page old 0 known.at known.agree)) e
   ring_goes stage.ClosePort here known e = of_front (Goes (step_at stage.ClosePort v)) _ a (closes_port stage.Left (record { agree = known.agree; at = known.at })) e
+  ring_goes (stage.KeptRead frame) here known e = waits (stage.KeptRead frame) here known (step_at (stage.KeptRead frame) v) refl (λ path. refl) e
+  ring_goes (stage.KeptEnd frame seen) here known e = waits (stage.KeptEnd frame seen) here known (step_at (stage.KeptEnd frame seen) v) refl (λ path. refl) e
   ring_goes stage.Left here known e = waits stage.Left here known (step_at stage.Left v) refl (λ path. refl) e
   ring_goes stage.Closed here known e = waits stage.Closed here known (step_at stage.Closed v) refl (λ path. refl) e
   ring_goes (stage.Broken word) here known e = waits (stage.Broken word) here known (step_at (stage.Broken word) v) refl (λ path. refl) e

@@ -259,6 +259,8 @@ module _ (s : FrontSight) (v : ring.View) (h : Hypervisor) (a : FrontAct) where
   watched_still (ring_stage.RingRead page) here known whole e some = unwatched (of_front (λ (x : FrontAct). is_watched x.answer ≡ false) _ a refl e) some
   watched_still (ring_stage.RingEnd page old) here known whole e some = unwatched (of_front (λ (x : FrontAct). is_watched x.answer ≡ false) _ a refl e) some
   watched_still ring_stage.ClosePort here known whole e some = unwatched (of_front (λ (x : FrontAct). is_watched x.answer ≡ false) _ a refl e) some
+  watched_still (ring_stage.KeptRead frame) here known whole e some = ap is_still here
+  watched_still (ring_stage.KeptEnd frame seen) here known whole e some = ap is_still here
   watched_still ring_stage.Left here known whole e some = ap is_still here
   watched_still ring_stage.Closed here known whole e some = ap is_still here
   watched_still (ring_stage.Broken word) here known whole e some = absurd (true≢false whole)

@@ -153,7 +153,7 @@ made_now w gref fit j asks =
 
 -- what the front takes a back of these features and this disk to serve
 abbrev pub offered : Found → Offers
-offered t = record { sectors = t.1.sectors; read_only = t.1.read_only; barrier = t.0.barrier; flush = t.0.flush; discard = t.0.discard; indirect = t.0.indirect }
+offered t = record { sectors = t.1.sectors; read_only = t.1.read_only; barrier = t.0.barrier; flush = t.0.flush; discard = t.0.discard; indirect = t.0.indirect; persistent = false }
 
 -- when the front's end of the ring enters a state: it is connected to a connected back, whose offers it knows, and leaves and is closed after the back; it is never broken
 abbrev pub IsTimely : World → FrontState → Type 0

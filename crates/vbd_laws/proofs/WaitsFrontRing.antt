@@ -113,6 +113,8 @@ Sees stage.LookAgain c asleep = (asleep ≡ false) × (c ≡ Fenced)
 Sees (stage.RingRead page) c asleep = Unit {0}
 Sees (stage.RingEnd page seen) c asleep = Unit {0}
 Sees stage.ClosePort c asleep = Unit {0}
+Sees (stage.KeptRead frame) c asleep = Unit {0}
+Sees (stage.KeptEnd frame seen) c asleep = Unit {0}
 Sees stage.Left c asleep = Unit {0}
 Sees stage.Closed c asleep = Unit {0}
 Sees (stage.Broken word) c asleep = Unit {0}
@@ -358,6 +360,8 @@ stands_at (stage.RingRead page) v (answer.Word word) c here is allowed = either 
 stands_at (stage.RingEnd page before) v (answer.Word word) c here is allowed =
     either (word == before) (at (ring_left v page) v) (broken word v) _ (either_at (nat_lt (page + 1) (2 ^ v.shape.order)) (stage.RingRead (page + 1)) stage.ClosePort v _ (tt, tt) (tt, tt)) (tt, tt)
 stands_at stage.ClosePort v x c here is allowed = (tt, tt)
+stands_at (stage.KeptRead frame) v x c here is allowed = stays (stage.KeptRead frame) v _ here (tt, tt)
+stands_at (stage.KeptEnd frame seen) v x c here is allowed = stays (stage.KeptEnd frame seen) v _ here (tt, tt)
 stands_at stage.Left v x c here is allowed = stays stage.Left v _ here (tt, tt)
 stands_at stage.Closed v x c here is allowed = stays stage.Closed v _ here (tt, tt)
 stands_at (stage.Broken word) v x c here is allowed = stays (stage.Broken word) v _ here (tt, tt)
