@@ -25,6 +25,6 @@ void serve_event(void);
 void event_sent(void);
 
 /* Ends the program, with a line on the error output. */
-void die(const char *what) __attribute__((noreturn));
+void qemu_dies(const char *what) __attribute__((noreturn));
 
 #endif

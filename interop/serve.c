@@ -62,11 +62,11 @@ static void *mapped_file(const char *name, off_t *length)
     void *bytes;
     int file = open(name, O_RDWR);
     if (file < 0 || fstat(file, &about) || about.st_size == 0) {
-        die("the memory or the image can't be opened, or is empty");
+        qemu_dies("the memory or the image can't be opened, or is empty");
     }
     bytes = mmap(NULL, about.st_size, PROT_READ | PROT_WRITE, MAP_SHARED, file, 0);
     if (bytes == MAP_FAILED) {
-        die("the memory or the image can't be mapped");
+        qemu_dies("the memory or the image can't be mapped");
     }
     close(file);
     *length = about.st_size;
@@ -80,7 +80,7 @@ static XenBlockDataPlane *connected(XenDevice *device, BlockBackend *disk, const
     XenBlockDataPlane *plane = xen_block_dataplane_create(device, disk, SECTOR_BYTES, NULL);
     xen_block_dataplane_start(plane, references, pages, 1, is_64 ? BLKIF_PROTOCOL_X86_64 : BLKIF_PROTOCOL_X86_32, &error);
     if (error) {
-        die(error->text);
+        qemu_dies(error->text);
     }
     take_up_ring(plane, printed);
     ring = (unsigned char *)(guest + guest[2 * references[0] + 1] * FRAME_WORDS);
@@ -94,7 +94,7 @@ static void serve_events(void)
     char line[32];
     while (fgets(line, sizeof(line), stdin)) {
         if (strcmp(line, "event\n")) {
-            die("a line other than `event`");
+            qemu_dies("a line other than `event`");
         }
         serve_event();
         print_responses();
@@ -118,11 +118,11 @@ int main(int count, char **words)
     }
     pages = count - 5;
     if (pages < 1 || pages > MOST_PAGES || (strcmp(words[3], "64") && strcmp(words[3], "32"))) {
-        die("usage: serve [--read-only] MEMORY IMAGE 64|32 START REFERENCE...");
+        qemu_dies("usage: serve [--read-only] MEMORY IMAGE 64|32 START REFERENCE...");
     }
     guest = mapped_file(words[1], &length);
     if (length != (off_t)FRAMES * FRAME_WORDS * 4) {
-        die("the memory has another length than 1024 frames");
+        qemu_dies("the memory has another length than 1024 frames");
     }
     disk.bytes = mapped_file(words[2], &length);
     disk.length = length - length % SECTOR_BYTES;

@@ -39,9 +39,9 @@ static uint32_t readers[GRANTS], writers[GRANTS];
 
 /* Memory. */
 
-void die(const char *what)
+void qemu_dies(const char *what)
 {
-    fprintf(stderr, "serve: %s\n", what);
+    fprintf(stderr, "qemu: %s\n", what);
     exit(1);
 }
 
@@ -49,7 +49,7 @@ void *zeroed(size_t size)
 {
     void *made = calloc(1, size);
     if (!made) {
-        die("out of memory");
+        qemu_dies("out of memory");
     }
     return made;
 }
@@ -58,7 +58,7 @@ void *aligned(size_t alignment, size_t size)
 {
     void *made = NULL;
     if (posix_memalign(&made, alignment, size)) {
-        die("out of memory");
+        qemu_dies("out of memory");
     }
     return made;
 }
@@ -73,7 +73,7 @@ void error_setg(Error **place, const char *format, ...)
     vsnprintf(made->text, sizeof(made->text), format, rest);
     va_end(rest);
     if (place == &error_abort) {
-        die(made->text);
+        qemu_dies(made->text);
     }
     *place = made;
 }
@@ -135,7 +135,7 @@ static void *map(uint32_t reference, bool to_write)
 {
     readers[reference]++;
     writers[reference] += to_write;
-    entry_of(reference)[0] |= GRANT_READING | (to_write ? GRANT_WRITING : 0);
+    __atomic_fetch_or(entry_of(reference), GRANT_READING | (to_write ? GRANT_WRITING : 0), __ATOMIC_SEQ_CST);
     return guest + entry_of(reference)[1] * FRAME_WORDS;
 }
 
@@ -144,10 +144,10 @@ static void unmap(uint32_t reference, bool to_write)
     readers[reference]--;
     writers[reference] -= to_write;
     if (!writers[reference]) {
-        entry_of(reference)[0] &= ~GRANT_WRITING;
+        __atomic_fetch_and(entry_of(reference), ~GRANT_WRITING, __ATOMIC_SEQ_CST);
     }
     if (!readers[reference]) {
-        entry_of(reference)[0] &= ~GRANT_READING;
+        __atomic_fetch_and(entry_of(reference), ~GRANT_READING, __ATOMIC_SEQ_CST);
     }
 }
 
@@ -296,7 +296,7 @@ void qemu_iovec_init(QEMUIOVector *vector, int hint)
 void qemu_iovec_add(QEMUIOVector *vector, void *base, size_t size)
 {
     if (vector->size) {
-        die("a second piece of data");
+        qemu_dies("a second piece of data");
     }
     *vector = (QEMUIOVector){base, size};
 }

@@ -3,9 +3,7 @@
 #define _GNU_SOURCE
 #include "live.h"
 #include <poll.h>
-#include <stdlib.h>
 #include <time.h>
-#include <unistd.h>
 
 /* A ring of one page of the 64-bit layout (io/ring.h, io/blkif.h): 32 slots of 28 words behind 16 words of indices. */
 enum { SLOTS = 32, SLOT_WORDS = 28, REQ_PROD = 0, REQ_EVENT, RSP_PROD, RSP_EVENT };
@@ -14,10 +12,10 @@ enum { RING_FRAME = 2, DATA_FRAME = 3, RING_GREF = 8, DATA_GREF = 16, MOST_PAGES
 
 /* Each request has a part of the disk, frames and grants of its own: what is on the disk is then known. */
 static struct { bool busy; uint32_t op, count, tag; uint64_t sector; } requests[SLOTS];
-static uint32_t *tags; /* of each sector, the tag of its last write; 0: zeros */
 static uint32_t produced, consumed;
 static uint64_t submitted, answered, sectors, words_seen, suspends, odd_answers;
 static bool gave_up;
+static struct { bool barrier, flush_cache, discard; } features; /* which the back's keys offer */
 
 /* What an honest back never does. Beside a hostile hand the front gives up where the ring is wrong, and goes on where data are. */
 static void wrong(const char *what) {
@@ -30,9 +28,6 @@ static void odd(const char *what) {
     odd_answers++;
 }
 
-static uint32_t word_of(uint32_t tag, uint64_t sector, uint32_t word) {
-    return tag ? tag * 2654435761u + (uint32_t)sector * 40503u + word * 97u : 0;
-}
 static uint32_t frame_of(uint32_t slot, uint32_t page) { return DATA_FRAME + slot * MOST_PAGES + page; }
 static uint32_t gref_of(uint32_t slot, uint32_t page) { return DATA_GREF + slot * MOST_PAGES + page; }
 static uint32_t pages_of(uint32_t slot) { return (requests[slot].count + PAGE_SECTORS - 1) / PAGE_SECTORS; }
@@ -69,7 +64,10 @@ static void connect_to_back(void) {
     set_key(FRONT_KEYS "/protocol", "x86_64-abi");
     set_state(INITIALISED);
     wait_for_state(CONNECTED, CLOSED);
-    if (get_number(BACK_KEYS, "sectors", 0) != options.depth * options.sectors_each) wrong("the disk has another size"); /* or the back couldn't connect */
+    if (get_number(BACK_KEYS, "sectors", 0) != disk_sectors()) wrong("the disk has another size"); /* or the back couldn't connect */
+    features.barrier = get_number(BACK_KEYS, "feature-barrier", 0) == 1;
+    features.flush_cache = get_number(BACK_KEYS, "feature-flush-cache", 0) == 1;
+    features.discard = get_number(BACK_KEYS, "feature-discard", 0) == 1;
     set_state(CONNECTED);
 }
 
@@ -85,7 +83,7 @@ static void compare(uint32_t slot) {
         for (uint32_t word = 0; word < SECTOR_WORDS; word++, words_seen++) {
             uint64_t sector = requests[slot].sector + i;
             uint32_t seen = load_word(frame_of(slot, i / PAGE_SECTORS), i % PAGE_SECTORS * SECTOR_WORDS + word);
-            if (seen != word_of(tags[sector], sector, word)) return odd("a word that was read is wrong");
+            if (seen != word_on_disk(sector, word)) return odd("a word that was read is wrong");
         }
 }
 
@@ -119,14 +117,22 @@ static void push(uint32_t before) {
     if (produced - load_word(RING_FRAME, REQ_EVENT) < produced - before) wake(outside.event[BACK]);
 }
 
+static uint32_t any_operation(void) {
+    uint64_t kind = any(100);
+    if (kind < 45 || options.read_only) return READ;
+    if (kind < 48 && features.barrier) return BARRIER;
+    if (kind < 50 && features.flush_cache) return FLUSH;
+    return kind < 53 && features.discard ? DISCARD : WRITE;
+}
+
 /* Has requests served while some are left and free. */
 static void submit(void) {
     uint32_t before = produced;
     for (uint32_t slot = 0; slot < options.depth && submitted < options.requests; slot++) {
         if (requests[slot].busy || (submitted > answered && any(4) == 0)) continue; /* never asleep with none in flight */
-        uint64_t kind = any(100), most = options.sectors_each;
+        uint64_t most = options.sectors_each;
         requests[slot].busy = true;
-        requests[slot].op = kind < 45 ? READ : kind < 92 ? WRITE : kind < 95 ? BARRIER : kind < 97 ? FLUSH : DISCARD;
+        requests[slot].op = any_operation();
         requests[slot].count = 1 + (uint32_t)any(most);
         requests[slot].sector = slot * most + any(most - requests[slot].count + 1);
         requests[slot].tag = 1 + (uint32_t)any(UINT32_MAX);
@@ -154,7 +160,7 @@ static void finish(uint32_t slot) {
         if (!end_grant(gref_of(slot, page))) odd("a frame is still mapped after its answer");
     if (requests[slot].op == READ) compare(slot);
     for (uint32_t i = 0; i < requests[slot].count && requests[slot].op != READ; i++)
-        tags[requests[slot].sector + i] = requests[slot].op == DISCARD ? 0 : requests[slot].tag;
+        wrote_sector(requests[slot].sector + i, requests[slot].op == DISCARD ? 0 : requests[slot].tag);
     sectors += has_data(requests[slot].op) ? requests[slot].count : 0;
     requests[slot].busy = false;
     answered++;
@@ -177,21 +183,11 @@ static bool take_responses(void) {
     return load_word(RING_FRAME, RSP_PROD) != consumed;
 }
 
-static void compare_image(void) {
-    for (uint64_t sector = 0; sector < options.depth * options.sectors_each; sector++) {
-        uint32_t words[SECTOR_WORDS];
-        if (pread(outside.image, words, sizeof words, (off_t)(sector * SECTOR_BYTES)) != sizeof words) die("the image is short");
-        for (uint32_t word = 0; word < SECTOR_WORDS; word++)
-            if (words[word] != word_of(tags[sector], sector, word)) die("sector %" PRIu64 " of the image is wrong", sector);
-    }
-}
-
 int run_front(void) {
     struct timespec began, ended;
     seed_of_thread(FRONT);
     map_memory();
-    tags = calloc(options.depth * options.sectors_each, sizeof *tags);
-    if (!tags) die("there is not enough memory");
+    make_image();
     connect_to_back();
     clock_gettime(CLOCK_MONOTONIC, &began);
     while (!gave_up && answered < options.requests) {

@@ -6,6 +6,7 @@
 #include <poll.h>
 #include <pthread.h>
 #include <sched.h>
+#include <signal.h>
 #include <stdarg.h>
 #include <stdlib.h>
 #include <string.h>
@@ -15,14 +16,14 @@
 #include <time.h>
 #include <unistd.h>
 
-struct options options = {20000, 32, 8, 0, 1, 0, false, false, false, 0};
+struct options options = {.requests = 20000, .depth = 32, .sectors_each = 8, .seed = 1};
 struct outside outside;
 
 static const char usage[] =
     "host: the proved back of a Xen block device on real shared memory, beside a plain front\n"
     "\n"
     "    host [--requests N] [--depth N] [--sectors N] [--suspends N] [--start N] [--seed N] [--image FILE]\n"
-    "         [--delays] [--hostile] [--threads]\n"
+    "         [--read-only] [--delays] [--hostile] [--threads]\n"
     "\n"
     "    --requests N   so many requests are served (20000)\n"
     "    --depth N      up to so many at once, 1 to 32 (32)\n"
@@ -31,6 +32,7 @@ static const char usage[] =
     "    --start N      the ring's first index, 0 to 4294967295 (0)\n"
     "    --seed N       what is asked for, and the delays (1)\n"
     "    --image FILE   the disk, which is made anew; else a file that is gone at the end\n"
+    "    --read-only    the disk is for reading alone\n"
     "    --delays       each word, key and call comes after a random delay\n"
     "    --hostile      a third process overwrites words of grants, ring and data; the front gives up at what is wrong then\n"
     "    --threads      threads in place of processes\n"
@@ -105,18 +107,24 @@ static int run_threads(void) {
     }
     return failed;
 }
+/* Where a process fails the others are ended, since they would wait for it. */
 static int run_processes(void) {
     void *(*const runs[])(void *) = {back_thread, front_thread, hostile_thread};
+    pid_t children[3];
     int failed = 0, count = options.hostile ? 3 : 2;
     for (int i = 0; i < count; i++) {
-        pid_t child = fork();
-        if (child < 0) die("a process can't be started");
-        if (child == 0) exit(runs[i](0) ? 1 : 0);
+        children[i] = fork();
+        if (children[i] < 0) die("a process can't be started");
+        if (children[i] == 0) exit(runs[i](0) ? 1 : 0);
     }
-    for (int i = 0; i < count; i++) {
+    for (int left = count; left > 0; left--) {
         int status = 0;
-        wait(&status);
-        failed += !WIFEXITED(status) || WEXITSTATUS(status);
+        pid_t gone = wait(&status);
+        bool well = WIFEXITED(status) && WEXITSTATUS(status) == 0;
+        failed += !well;
+        for (int i = 0; i < count; i++)
+            if (children[i] == gone) children[i] = 0;
+            else if (children[i] && !well) kill(children[i], SIGKILL);
     }
     return failed;
 }
@@ -135,7 +143,7 @@ static void open_outside(void) {
     outside.stopped = eventfd(0, EFD_NONBLOCK | EFD_CLOEXEC);
     outside.image = memfd_create("image", MFD_CLOEXEC);
     if (options.image) outside.image = open(options.image, O_RDWR | O_CREAT | O_TRUNC | O_CLOEXEC, 0644);
-    uint64_t bytes = options.depth * options.sectors_each * SECTOR_BYTES;
+    uint64_t bytes = disk_sectors() * SECTOR_BYTES;
     if (outside.stopped < 0 || outside.image < 0 || ftruncate(outside.image, (off_t)bytes)) die("the image can't be made");
     make_keys();
 }
@@ -161,6 +169,7 @@ int main(int count, char **words) {
     for (int i = 1; i < count; i++) {
         const char *word = words[i], *next = i + 1 < count ? words[i + 1] : 0;
         if (!strcmp(word, "--help")) return fputs(usage, stdout), 0;
+        else if (!strcmp(word, "--read-only")) options.read_only = true;
         else if (!strcmp(word, "--delays")) options.delays = true;
         else if (!strcmp(word, "--hostile")) options.hostile = true;
         else if (!strcmp(word, "--threads")) options.threads = true;

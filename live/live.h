@@ -23,7 +23,7 @@ enum { INITIALISING = 1, INIT_WAIT, INITIALISED, CONNECTED, CLOSING, CLOSED }; /
 struct options {
     uint64_t requests, depth, sectors_each, suspends, seed;
     uint32_t start;
-    bool delays, hostile, threads;
+    bool read_only, delays, hostile, threads;
     const char *image;
 };
 extern struct options options;
@@ -62,6 +62,14 @@ void make_keys(void);
 bool get_key(const char *path, char text[TEXT_ROOM]);
 void set_key(const char *path, const char *text);
 uint64_t get_number(const char *folder, const char *name, uint64_t otherwise);
+
+/* A plain model of the disk (model.c): what each word of the image should be, after what was asked for. */
+uint64_t disk_sectors(void);
+void make_image(void);
+uint32_t word_of(uint32_t tag, uint64_t sector, uint32_t word);
+uint32_t word_on_disk(uint64_t sector, uint32_t word);
+void wrote_sector(uint64_t sector, uint32_t tag);
+void compare_image(void);
 
 int run_back(void);  /* back.c: the proved back */
 int run_front(void); /* front.c: a plain front, of which nothing is proved */
