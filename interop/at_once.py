@@ -64,7 +64,7 @@ def said_by(host: pathlib.Path, words: list[str]) -> str:
 def words_of_guest(chance: random.Random) -> list[str]:
     """What a guest's host is told: of a disk of up to 32 parts of up to 88 sectors, how many requests of how many sectors, and how."""
     has_delays, sectors, depth = chance.random() < 0.25, chance.choice([1, 8, 88]), chance.choice([1, 8, 32, 32])
-    requests = chance.choice([20, 200, 1000] if has_delays else [20, 1000, 8000]) // (4 if sectors == 88 else 1)
+    requests = chance.choice([20, 200, 2000] if has_delays else [20, 2000, 20000]) // (4 if sectors == 88 else 1)
     words = ["--requests", str(requests), "--depth", str(depth), "--sectors", str(sectors)]
     return [*words, *["--delays"] * has_delays, *["--read-only"] * (chance.random() < 0.15)]
 

@@ -65,6 +65,12 @@ void delay(void) {
     else if (kind % 16 == 2) for (volatile uint64_t i = any(128); i > 0; i--) {}
 }
 
+/* Of keys, which are few, every second one is late. */
+void long_delay(void) {
+    struct timespec time = {0, (long)any(200000)};
+    if (options.delays && any(2)) nanosleep(&time, 0);
+}
+
 void wake(int descriptor) {
     uint64_t one = 1;
     if (write(descriptor, &one, sizeof one) != sizeof one) die("an event can't be sent");

@@ -30,7 +30,7 @@ static char *text_at(char *lines, const char *path) {
 
 bool get_key(const char *path, char text[TEXT_ROOM]) {
     char lines[ROOM];
-    delay();
+    long_delay();
     int file = open_keys(LOCK_SH, lines);
     char *at = text_at(lines, path);
     size_t length = at ? strcspn(at, "\n") : 0;
@@ -42,7 +42,7 @@ bool get_key(const char *path, char text[TEXT_ROOM]) {
 
 void set_key(const char *path, const char *text) {
     char lines[ROOM], after[ROOM];
-    delay();
+    long_delay();
     int file = open_keys(LOCK_EX, lines);
     char *at = text_at(lines, path);
     int length = at ? snprintf(after, ROOM, "%.*s%s%s", (int)(at - lines), lines, text, at + strcspn(at, "\n"))

@@ -39,6 +39,7 @@ _Noreturn void die(const char *format, ...) __attribute__((format(printf, 1, 2))
 uint64_t any(uint64_t below);
 void seed_of_thread(uint64_t who);
 void delay(void);
+void long_delay(void);
 void wake(int descriptor);
 bool woken(int descriptor);
 
