@@ -40,7 +40,7 @@ UINT16 EFIAPI InterlockedCompareExchange16(IN OUT volatile UINT16 *Value, IN UIN
     return __sync_val_compare_and_swap(Value, Old, New);
 }
 
-/* The first page is the ring's; others lie one after another. */
+/* The one page that is asked for is the ring's. */
 VOID *EFIAPI AllocatePages(IN UINTN Pages)
 {
     static int made_ring;
