@@ -29,10 +29,10 @@ enum vbd_status {
     VBD_TOLD,         /* done, and the move told something: vbd_back_told before the next answer */
     VBD_NOT_ALLOWED,  /* the ask doesn't allow this answer */
     VBD_UNTOLD,       /* what the last move told wasn't taken yet */
-    VBD_NO_BACK,      /* the handle has none */
+    VBD_EMPTY,        /* the handle has none */
     VBD_IN_USE,       /* the handle has one already */
     VBD_NO_MEMORY,
-    VBD_OUT_OF_RANGE, /* an option; or a text that is too long or no UTF-8 */
+    VBD_OUT_OF_RANGE, /* an option; or a text that is too long or no UTF-8; or no submission of a front */
 };
 
 /* The disk's number of 512-byte sectors; the most segments of an indirect request, 0 to 960, where 0 turns them off; the
@@ -61,6 +61,8 @@ enum vbd_kind {
     VBD_DISK_WRITE, /* `sector`, which is to be vbd_back_words: VBD_OK or VBD_FAILED */
     VBD_FLUSH,      /* all that was written is to be stable: VBD_OK or VBD_FAILED */
     VBD_TRIM,       /* `sectors` from `sector` on: VBD_OK or VBD_FAILED */
+    VBD_CAS,        /* of a front alone: vbd_front.h */
+    VBD_NEW_PORT,   /* likewise */
 };
 
 /* Fields that a kind doesn't name are 0. Words are below 1024, sectors below the disk's. Of a mapping `gref` and `writes`
@@ -79,6 +81,7 @@ enum vbd_answer_kind {
     VBD_UNBOUND,
     VBD_NO_KEY,
     VBD_FAILED,
+    VBD_PORT,    /* `word`, of a front's VBD_NEW_PORT */
 };
 struct vbd_answer {
     uint32_t kind, word;
@@ -119,7 +122,7 @@ size_t vbd_back_path(struct vbd_back *back, uint8_t *bytes, size_t count);
 size_t vbd_back_text(struct vbd_back *back, uint8_t *bytes, size_t count);
 bool vbd_back_words(struct vbd_back *back, uint64_t job, uint32_t *words, size_t count); /* false but for a write, and 128 */
 
-/* The answer: VBD_DONE, VBD_TOLD, VBD_NOT_ALLOWED, VBD_UNTOLD or VBD_NO_BACK; of a text also VBD_OUT_OF_RANGE. Mappings are
+/* The answer: VBD_DONE, VBD_TOLD, VBD_NOT_ALLOWED, VBD_UNTOLD or VBD_EMPTY; of a text also VBD_OUT_OF_RANGE. Mappings are
  * numbered by the program, which gives no number again while a mapping of it is held. */
 uint32_t vbd_back_complete(struct vbd_back *back, uint64_t job, const struct vbd_answer *answer);
 uint32_t vbd_back_mapped(struct vbd_back *back, uint64_t job, uint64_t mapping);

@@ -1,4 +1,4 @@
--- The tests of answers decide what the back and its jobs say of them.
+-- The tests of answers decide what the back, its jobs and the front say of them.
 use Rattle.std.proofs.Common.{◌≡◌, ℕ, true, false, ◌==◌, Decides, refl}
 use Rattle.std.proofs.lemmas.Bool.Decides.{Decides-and, Decides-eqb}
 use Rattle.blk_base.specs.declared.parts.Mapping.{Mapping}
@@ -8,9 +8,14 @@ use Rattle.blk_base.specs.declared.ask.BackAsk.{BackAsk}
 use Rattle.blk_base.specs.declared.ask.BackAsk.TheVariants as ask
 use Rattle.blk_base.specs.declared.ask.BackAnswer.{BackAnswer}
 use Rattle.blk_base.specs.declared.ask.BackAnswer.TheVariants.{Event, Watched, Done, Word, Mapped, MapRefused, BindRefused, Key, Sector, DiskFailed}
+use Rattle.blk_base.specs.declared.ask.FrontAsk.{FrontAsk}
+use Rattle.blk_base.specs.declared.ask.FrontAsk.TheVariants as front_ask
+use Rattle.blk_base.specs.declared.ask.FrontAnswer.{FrontAnswer}
+use Rattle.blk_base.specs.declared.ask.FrontAnswer.TheVariants as front_given
 use Rattle.back_jobs.specs.Work as jobs
 use Rattle.vbd_back.specs.Ask as back
-use Rattle.vbd_c.specs.Allowed.{is_same_mode, is_of, back_allows, job_allows}
+use Rattle.vbd_front.specs.Ask as front
+use Rattle.vbd_c.specs.Allowed.{is_same_mode, is_of, back_allows, job_allows, front_allows}
 
 yes : Decides true (Unit {0})
 yes = (λ e. tt, λ t. refl)
@@ -60,3 +65,18 @@ job_means ask.Flush DiskFailed = yes
 job_means (ask.Trim sector count) Done = yes
 job_means (ask.Trim sector count) DiskFailed = yes
 job_means a given = no
+
+pub front_means : (a : FrontAsk) (given : FrontAnswer) → Decides (front_allows a given) (front.IsAnswer a given)
+front_means front_ask.Wait front_given.Event = yes
+front_means front_ask.Wait (front_given.Watched path) = yes
+front_means front_ask.Fence front_given.Done = yes
+front_means (front_ask.Read frame word) (front_given.Word value) = yes
+front_means (front_ask.Write frame word value) front_given.Done = yes
+front_means (front_ask.Cas frame word old new) (front_given.Word seen) = yes
+front_means front_ask.NewPort (front_given.Port port) = yes
+front_means front_ask.Send front_given.Done = yes
+front_means front_ask.ClosePort front_given.Done = yes
+front_means (front_ask.GetKey path) (front_given.Key text) = yes
+front_means (front_ask.SetKey path text) front_given.Done = yes
+front_means (front_ask.Watch path) front_given.Done = yes
+front_means a given = no

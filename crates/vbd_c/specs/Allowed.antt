@@ -7,6 +7,10 @@ use Rattle.blk_base.specs.declared.ask.BackAsk.{BackAsk}
 use Rattle.blk_base.specs.declared.ask.BackAsk.TheVariants as ask
 use Rattle.blk_base.specs.declared.ask.BackAnswer.{BackAnswer}
 use Rattle.blk_base.specs.declared.ask.BackAnswer.TheVariants.{Event, Watched, Done, Word, Mapped, MapRefused, BindRefused, Key, Sector, DiskFailed}
+use Rattle.blk_base.specs.declared.ask.FrontAsk.{FrontAsk}
+use Rattle.blk_base.specs.declared.ask.FrontAsk.TheVariants as front_ask
+use Rattle.blk_base.specs.declared.ask.FrontAnswer.{FrontAnswer}
+use Rattle.blk_base.specs.declared.ask.FrontAnswer.TheVariants as given
 
 abbrev pub is_same_mode : Mode → Mode → Bool
 is_same_mode ReadOnly ReadOnly = true
@@ -49,3 +53,18 @@ job_allows ask.Flush DiskFailed = true
 job_allows (ask.Trim sector count) Done = true
 job_allows (ask.Trim sector count) DiskFailed = true
 job_allows a answer = memory_allows a answer
+
+abbrev pub front_allows : FrontAsk → FrontAnswer → Bool
+front_allows front_ask.Wait given.Event = true
+front_allows front_ask.Wait (given.Watched path) = true
+front_allows front_ask.Fence given.Done = true
+front_allows (front_ask.Read frame word) (given.Word value) = true
+front_allows (front_ask.Write frame word value) given.Done = true
+front_allows (front_ask.Cas frame word old new) (given.Word seen) = true
+front_allows front_ask.NewPort (given.Port port) = true
+front_allows front_ask.Send given.Done = true
+front_allows front_ask.ClosePort given.Done = true
+front_allows (front_ask.GetKey path) (given.Key text) = true
+front_allows (front_ask.SetKey path text) given.Done = true
+front_allows (front_ask.Watch path) given.Done = true
+front_allows a answer = false

@@ -4,6 +4,8 @@ use Rattle.blk_base.specs.declared.ask.BackAsk.{BackAsk}
 use Rattle.blk_base.specs.declared.ask.BackAsk.TheVariants as ask
 use Rattle.blk_base.specs.declared.ask.BackAnswer.{BackAnswer}
 use Rattle.blk_base.specs.declared.ask.BackAnswer.TheVariants.{Event, Done, Word, Mapped, MapRefused, BindRefused, Key, DiskFailed}
+use Rattle.blk_base.specs.declared.ask.FrontAnswer.{FrontAnswer}
+use Rattle.blk_base.specs.declared.ask.FrontAnswer.TheVariants as front
 use Rattle.vbd_c.specs.declared.answer.AnswerNumbers.{AnswerNumbers}
 use Rattle.vbd_c.specs.declared.status.Status.{Status}
 use Rattle.vbd_c.specs.declared.status.Status.TheVariants.{NotAllowed}
@@ -21,6 +23,16 @@ answer_of a =
     else (if a.kind == 5 then Some (Key None)
     else (if a.kind == 6 then Some DiskFailed
     else None))))))
+
+-- the same to a front
+abbrev pub front_answer_of : AnswerNumbers → Option FrontAnswer
+front_answer_of a =
+    if a.kind == 0 then Some front.Done
+    else (if a.kind == 1 then Some front.Event
+    else (if a.kind == 2 then Some (front.Word a.word)
+    else (if a.kind == 5 then Some (front.Key None)
+    else (if a.kind == 7 then Some (front.Port a.word)
+    else None))))
 
 -- the answer to a map: the mapping that was made has the reference and the mode that were asked for
 abbrev pub mapping_for : BackAsk → ℕ → Option BackAnswer

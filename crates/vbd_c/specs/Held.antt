@@ -47,7 +47,7 @@ SuspendedAs new before after status.Untold = IsSome before.told × (after ≡ be
 SuspendedAs new before after s = ⊥
 
 abbrev pub SuspendedWith : (start : ℕ) (going : Bool) → Option View → Option View → Status → Type 0
-SuspendedWith start going None after s = (after ≡ None) × (s ≡ status.NoBack)
+SuspendedWith start going None after s = (after ≡ None) × (s ≡ status.Empty)
 SuspendedWith start going (Some v) None s = ⊥
 SuspendedWith start going (Some v) (Some after) s = SuspendedAs (back.renewed start going v.back) v after s
 
@@ -56,7 +56,7 @@ SuspendedIn start going before after code = (s : Status) × (code ≡ code_of s)
 
 -- whether there is a back
 abbrev pub found : Option View → Status
-found None = status.NoBack
+found None = status.Empty
 found (Some v) = status.Done
 
 -- what is asked is written where there is a back
@@ -82,7 +82,7 @@ answered_in None job a = None
 answered_in (Some v) job a = Some (answered_by v job a)
 
 abbrev pub status_in : Option View → ℕ → Option BackAnswer → Status
-status_in None job a = status.NoBack
+status_in None job a = status.Empty
 status_in (Some v) job a = status_by v job a
 
 -- the same in the words of the back and of its jobs

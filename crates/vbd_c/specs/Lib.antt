@@ -9,3 +9,9 @@ pub mod Told
 pub mod Bytes
 pub mod Held
 pub mod Owned
+pub mod FrontAsk
+pub mod FrontTold
+pub mod FrontMove
+pub mod FrontHeld
+pub mod FrontOwned
+pub mod Submission

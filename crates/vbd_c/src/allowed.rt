@@ -2,9 +2,10 @@
 ghost use Rattle.std.specs.Prelude.{◌≡◌, ◌↔◌, IsTrue};
 ghost use Rattle.vbd_back.specs.Ask.{IsAnswer as IsBackAnswer};
 ghost use Rattle.back_jobs.specs.Work.{IsAnswer as IsJobAnswer};
-ghost use Rattle.vbd_c.specs.Allowed.{is_same_mode, is_of, memory_allows, back_allows, job_allows};
+ghost use Rattle.vbd_front.specs.Ask.{IsAnswer as IsFrontAnswer};
+ghost use Rattle.vbd_c.specs.Allowed.{is_same_mode, is_of, memory_allows, back_allows, job_allows, front_allows};
 
-use blk_base::{BackAnswer, BackAsk, Mapping, Mode};
+use blk_base::{BackAnswer, BackAsk, FrontAnswer, FrontAsk, Mapping, Mode};
 
 /// Whether an ask of the back allows this answer.
 #[tactic(auto, using(crate::proofs::Decided::back_means))]
@@ -63,6 +64,25 @@ fn is_same_mode(a: Mode, b: Mode) -> bool
 {
     match (a, b) {
         (Mode::ReadOnly, Mode::ReadOnly) | (Mode::ReadWrite, Mode::ReadWrite) => true,
+        _ => false,
+    }
+}
+
+/// Whether an ask of the front allows this answer.
+#[tactic(auto, using(crate::proofs::Decided::front_means))]
+pub fn front_allows(ask: &FrontAsk, answer: &FrontAnswer) -> bool
+    ensures value { result ≡ front_allows ask.now answer.now }
+    ensures means { IsTrue result ↔ IsFrontAnswer ask.now answer.now }
+{
+    match (ask, answer) {
+        (FrontAsk::Wait, FrontAnswer::Event | FrontAnswer::Watched(_)) => true,
+        (FrontAsk::Fence, FrontAnswer::Done) => true,
+        (FrontAsk::Read { .. } | FrontAsk::Cas { .. }, FrontAnswer::Word(_)) => true,
+        (FrontAsk::Write { .. }, FrontAnswer::Done) => true,
+        (FrontAsk::NewPort, FrontAnswer::Port(_)) => true,
+        (FrontAsk::Send | FrontAsk::ClosePort, FrontAnswer::Done) => true,
+        (FrontAsk::GetKey(_), FrontAnswer::Key(_)) => true,
+        (FrontAsk::SetKey(..) | FrontAsk::Watch(_), FrontAnswer::Done) => true,
         _ => false,
     }
 }

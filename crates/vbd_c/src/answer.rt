@@ -1,10 +1,11 @@
 // An answer as the numbers that C writes.
 ghost use Rattle.std.specs.Prelude.{◌≡◌};
-ghost use Rattle.vbd_c.specs.Answer.{answer_of, mapping_for};
+ghost use Rattle.vbd_c.specs.Answer.{answer_of, front_answer_of, mapping_for};
 
-use blk_base::{BackAnswer, BackAsk, Mapping};
+use blk_base::{BackAnswer, BackAsk, FrontAnswer, Mapping};
 
-/// An answer as numbers: its kind, the word of a read, and the status of a map that was refused (`GNTST_*`).
+/// An answer as numbers: its kind, the word of a read or the port that was made, and the status of a map that was refused
+/// (`GNTST_*`).
 #[repr(C)]
 #[derive(Clone, Copy)]
 pub struct AnswerNumbers {
@@ -14,7 +15,7 @@ pub struct AnswerNumbers {
 }
 
 impl AnswerNumbers {
-    /// The answer, which may be of another kind than is asked for; `None` where no kind has the number.
+    /// The answer to a back, which may be of another kind than is asked for; `None` where no kind has the number.
     pub fn answer<'a>(&self) -> Option<BackAnswer<'a>>
         ensures { result ≡ answer_of self.now }
     {
@@ -26,6 +27,20 @@ impl AnswerNumbers {
             4 => Some(BackAnswer::BindRefused),
             5 => Some(BackAnswer::Key(None)),
             6 => Some(BackAnswer::DiskFailed),
+            _ => None,
+        }
+    }
+
+    /// The same to a front.
+    pub fn front_answer<'a>(&self) -> Option<FrontAnswer<'a>>
+        ensures { result ≡ front_answer_of self.now }
+    {
+        match self.kind {
+            0 => Some(FrontAnswer::Done),
+            1 => Some(FrontAnswer::Event),
+            2 => Some(FrontAnswer::Word(self.word)),
+            5 => Some(FrontAnswer::Key(None)),
+            7 => Some(FrontAnswer::Port(self.word)),
             _ => None,
         }
     }

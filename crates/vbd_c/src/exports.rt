@@ -53,7 +53,7 @@ pub extern "C" fn vbd_back_ask(
     ensures status { result ≡ code_of (found back.old.place.held) }
 {
     let Some(held) = back.take(alloc) else {
-        return Status::NoBack.code();
+        return Status::Empty.code();
     };
     *ask = AskNumbers::of(&held.ask(job));
     back.put(held);
@@ -134,7 +134,7 @@ pub extern "C" fn vbd_back_mapped(alloc: Global, back: &mut Handle, job: u64, nu
     ensures answered { AnsweredAs back.old.place.held job (mapping_in back.old.place.held job number) back.new.place.held }
 {
     let Some(mut held) = back.take(alloc) else {
-        return Status::NoBack.code();
+        return Status::Empty.code();
     };
     let status = held.answer_map(job, number);
     back.put(held);
@@ -272,7 +272,7 @@ pub extern "C" fn vbd_back_close(alloc: Global, back: &mut Handle) -> u32
     ensures status { result ≡ code_of (found back.old.place.held) }
 {
     let Some(mut held) = back.take(alloc) else {
-        return Status::NoBack.code();
+        return Status::Empty.code();
     };
     held.close();
     back.put(held);
@@ -286,7 +286,7 @@ pub extern "C" fn vbd_back_suspend(alloc: Global, back: &mut Handle, start: u32,
     ensures { SuspendedIn start going back.old.place.held back.new.place.held result }
 {
     let Some(mut held) = back.take(alloc) else {
-        return Status::NoBack.code();
+        return Status::Empty.code();
     };
     let status = held.suspend(alloc, start, going);
     back.put(held);

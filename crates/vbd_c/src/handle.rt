@@ -71,7 +71,7 @@ impl Handle {
         ensures answered { AnsweredAs self.old.place.held job answer.entry self.new.place.held }
     {
         let Some(mut held) = self.take(alloc) else {
-            return Status::NoBack;
+            return Status::Empty;
         };
         let status = match answer {
             Some(answer) => held.answer(job, &answer),

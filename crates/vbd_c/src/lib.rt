@@ -1,5 +1,6 @@
-//! The back of a Xen block device for programs in C: a back behind a handle, which a program moves on memory of its own.
-//! Each call asks for one thing or answers it; nothing blocks, and nothing is called back. `include/vbd.h` is its header.
+//! Both ends of a Xen block device for programs in C: a back or a front behind a handle, which a program moves on memory of
+//! its own. Each call asks for one thing or answers it; nothing blocks, and nothing is called back. `include/vbd.h` and
+//! `include/vbd_front.h` are its headers.
 #![tactic(auto)]
 
 mod allowed;
@@ -7,11 +8,19 @@ mod answer;
 mod ask;
 mod bytes;
 mod exports;
+mod front_ask;
+mod front_exports;
+mod front_handle;
+mod front_held;
+mod front_place;
+mod front_told;
 mod halt;
 mod handle;
 mod held;
 mod options;
+mod owed;
 mod parts;
 mod place;
 mod status;
+mod submission;
 mod told;

@@ -1,6 +1,7 @@
-// The options of a back, as the numbers that C writes.
+// The options of an end, as the numbers that C writes.
 ghost use Rattle.std.specs.Prelude.{◌≡◌};
 ghost use Rattle.vbd_c.specs.Held.{options_of};
+ghost use Rattle.vbd_c.specs.FrontHeld.{options_of as front_options_of, abi_of};
 
 use blk_base::{Abi, Config};
 
@@ -31,6 +32,36 @@ impl BackOptions {
             start: self.start,
             read_only: self.read_only,
             sectors: self.sectors,
+        })
+    }
+}
+
+/// The order of the ring that the front wishes (0 to 4, the ring has `2^order` pages), the first ring index, and whether
+/// entries have the layout of `x86_32-abi` in place of `x86_64-abi`. What the back serves comes from the back's keys.
+#[repr(C)]
+#[derive(Clone, Copy)]
+pub struct FrontOptions {
+    pub order: u32,
+    pub start: u32,
+    pub x86_32: bool,
+}
+
+impl FrontOptions {
+    /// The options; `None` exactly where the order is above 4.
+    pub fn config(&self) -> Option<Config>
+        ensures { result ≡ front_options_of self.now }
+    {
+        if self.order > 4 {
+            return None;
+        }
+        Some(Config {
+            abi: if self.x86_32 { Abi::X32 } else { Abi::X64 },
+            order: self.order,
+            persistent: 0,
+            indirect: 0,
+            start: self.start,
+            read_only: false,
+            sectors: 0,
         })
     }
 }

@@ -1,0 +1,149 @@
+-- What each call makes of a handle of a front, which has one or none.
+use Rattle.std.specs.Prelude.{◌≡◌, ℕ, Bool, true, false, List, [], Option, Some, None, IsSome, Result, Ok, Err, if◌then◌else◌, nat_lt}
+use Rattle.blk_base.specs.Options.{Options}
+use Rattle.blk_base.specs.declared.operation.Abi.{Abi}
+use Rattle.blk_base.specs.declared.operation.Abi.TheVariants.{X64, X32}
+use Rattle.blk_base.specs.declared.ask.FrontAnswer.{FrontAnswer}
+use Rattle.blk_base.specs.declared.ask.FrontAnswer.TheVariants.{Key, Watched}
+use Rattle.blk_base.specs.declared.config.Submission.{Submission}
+use Rattle.blk_base.specs.declared.refusal.Refusal.{Refusal}
+use Rattle.blk_front.specs.Submit.{submit_of, unfinished, sectors_owed}
+use Rattle.vbd_front.specs.View.{View, start_of, heard}
+use Rattle.vbd_front.specs.Ask.{ask_of}
+use Rattle.vbd_front.specs.Step.{suspended}
+use Rattle.vbd_c.specs.declared.options.FrontOptions.{FrontOptions}
+use Rattle.vbd_c.specs.declared.front_ask.FrontAskNumbers.{FrontAskNumbers}
+use Rattle.vbd_c.specs.declared.front_told.FrontToldNumbers.{FrontToldNumbers}
+use Rattle.vbd_c.specs.declared.owed.OwedNumbers.{OwedNumbers}
+use Rattle.vbd_c.specs.declared.status.Status.{Status}
+use Rattle.vbd_c.specs.declared.status.Status.TheVariants as status
+use Rattle.vbd_c.specs.Status.{code_of}
+use Rattle.vbd_c.specs.FrontAsk.{numbers_of, path_of, text_of}
+use Rattle.vbd_c.specs.FrontTold.{numbers_told}
+use Rattle.vbd_c.specs.FrontMove.{answered, IsAnswered, status_of, submitted, submit_status, closed, close_status}
+
+-- the order is at most 4; what the back serves comes from the back's keys
+abbrev pub abi_of : Bool → Abi
+abi_of true = X32
+abi_of false = X64
+
+abbrev pub options_of : FrontOptions → Option Options
+options_of o =
+    if nat_lt 4 o.order then None
+    else Some (record { abi = abi_of o.x86_32; order = o.order; persistent = 0; indirect = 0; start = o.start; read_only = false; sectors = 0 })
+
+-- a handle gets a front where it had none, its options are in range and there is enough memory; else nothing changes
+abbrev pub MadeWith : Option Options → Option View → Option View → Status → Type 0
+MadeWith (Some config) before after status.Done = (before ≡ None) × (after ≡ Some (start_of config))
+MadeWith (Some config) before after status.NoMemory = (before ≡ None) × (after ≡ before)
+MadeWith None before after status.OutOfRange = (before ≡ None) × (after ≡ before)
+MadeWith config before after status.InUse = IsSome before × (after ≡ before)
+MadeWith config before after s = ⊥
+
+abbrev pub MadeAs : Option Options → Option View → Option View → ℕ → Type 0
+MadeAs config before after code = (s : Status) × (code ≡ code_of s) × MadeWith config before after s
+
+-- whether there is a front
+abbrev pub found : Option View → Status
+found None = status.Empty
+found (Some v) = status.Done
+
+-- what is asked is written where there is a front
+abbrev pub asked : Option View → FrontAskNumbers → FrontAskNumbers
+asked None before = before
+asked (Some v) before = numbers_of (ask_of v)
+
+abbrev pub path_in : Option View → List ℕ
+path_in None = []
+path_in (Some v) = path_of (ask_of v)
+
+abbrev pub text_in : Option View → List ℕ
+text_in None = []
+text_in (Some v) = text_of (ask_of v)
+
+-- an answer to what the front asks; numbers that say none change nothing
+abbrev pub answered_by : View → Option FrontAnswer → View
+answered_by v None = v
+answered_by v (Some a) = answered v a
+
+abbrev pub status_by : View → Option FrontAnswer → Status
+status_by v None = status.NotAllowed
+status_by v (Some a) = status_of v a
+
+abbrev pub answered_in : Option View → Option FrontAnswer → Option View
+answered_in None a = None
+answered_in (Some v) a = Some (answered_by v a)
+
+abbrev pub status_in : Option View → Option FrontAnswer → Status
+status_in None a = status.Empty
+status_in (Some v) a = status_by v a
+
+-- the same in the words of the front
+abbrev pub AnsweredAs : Option View → Option FrontAnswer → Option View → Type 0
+AnsweredAs None a after = after ≡ None
+AnsweredAs (Some v) None after = after ≡ Some v
+AnsweredAs (Some v) (Some a) None = ⊥
+AnsweredAs (Some v) (Some a) (Some after) = IsAnswered v a after
+
+-- a key's text and the path of a watch as answers
+abbrev pub key_answer : List ℕ → Option FrontAnswer
+key_answer text = Some (Key (Some text))
+
+abbrev pub watch_answer : List ℕ → Option FrontAnswer
+watch_answer path = Some (Watched path)
+
+-- a submission; numbers that say none change nothing
+abbrev pub submitted_by : View → Option Submission → View
+submitted_by v None = v
+submitted_by v (Some s) = submitted v s
+
+abbrev pub submitted_in : Option View → Option Submission → Option View
+submitted_in None s = None
+submitted_in (Some v) s = Some (submitted_by v s)
+
+abbrev pub submit_status_in : Option View → Option Submission → Status
+submit_status_in None s = status.Empty
+submit_status_in (Some v) None = status.OutOfRange
+submit_status_in (Some v) (Some s) = submit_status v s
+
+-- the number of a request that was taken is written
+abbrev pub number_of : Result ℕ Refusal → ℕ → ℕ
+number_of (Ok number) before = number
+number_of (Err why) before = before
+
+abbrev pub number_in : Option View → Option Submission → ℕ → ℕ
+number_in None s before = before
+number_in (Some v) None before = before
+number_in (Some v) (Some s) before = number_of (submit_of v.ring s).0 before
+
+-- what is told, once
+abbrev pub told_in : Option View → Option FrontToldNumbers
+told_in None = None
+told_in (Some v) = numbers_told v.ring.told v.news
+
+abbrev pub heard_in : Option View → Option View
+heard_in None = None
+heard_in (Some v) = Some (heard v)
+
+-- numbers are written where there are any
+abbrev pub told_numbers : Option FrontToldNumbers → FrontToldNumbers → FrontToldNumbers
+told_numbers None before = before
+told_numbers (Some told) before = told
+
+-- what is unfinished
+abbrev pub owed_in : Option View → OwedNumbers → OwedNumbers
+owed_in None before = before
+owed_in (Some v) before = record { requests = unfinished v.ring; sectors = sectors_owed v.ring }
+
+-- the front was asked to close, and the domain was suspended and resumes
+abbrev pub closed_in : Option View → Option View
+closed_in None = None
+closed_in (Some v) = Some (closed v)
+
+abbrev pub close_status_in : Option View → Status
+close_status_in None = status.Empty
+close_status_in (Some v) = close_status v
+
+abbrev pub suspended_in : Option View → Option View
+suspended_in None = None
+suspended_in (Some v) = Some (suspended v)
