@@ -128,7 +128,7 @@ static bool wait(void) {
 int run_back(void) {
     seed_of_thread(BACK);
     map_memory();
-    struct vbd_options disk_of = {disk_sectors(), 0, options.start, options.read_only};
+    struct vbd_options disk_of = {disk_sectors(), options.indirect, options.start, options.read_only};
     if (vbd_back_new(&back, &disk_of) != VBD_DONE) die("the back can't be made");
     while (move_all() || wait())
         if (woken(outside.suspend)) suspend();

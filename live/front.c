@@ -1,215 +1,185 @@
-/* A plain front: it connects as blkfront does, over a ring of one page, and has direct requests served whose data it knows.
- * Nothing is proved of it. It stands here so that the proved back has a guest. */
+/* The proved front as a host drives it: ask, do what is asked, answer; hand it requests, and take what it tells. Copy this file
+ * for a host of your own. Each request has a part of the disk of its own: what is on the disk is then known. */
 #define _GNU_SOURCE
 #include "live.h"
+#include "vbd_front.h"
 #include <poll.h>
+#include <string.h>
 #include <time.h>
 
-/* A ring of one page of the 64-bit layout (io/ring.h, io/blkif.h): 32 slots of 28 words behind 16 words of indices. */
-enum { SLOTS = 32, SLOT_WORDS = 28, REQ_PROD = 0, REQ_EVENT, RSP_PROD, RSP_EVENT };
-enum { READ, WRITE, BARRIER, FLUSH, DISCARD = 5 };
-enum { RING_FRAME = 2, DATA_FRAME = 3, RING_GREF = 8, DATA_GREF = 16, MOST_PAGES = 11, PAGE_SECTORS = 8, PORT = 1 };
+enum { MOST = 512, DIRECT_SECTORS = 88 };
 
-/* Each request has a part of the disk, frames and grants of its own: what is on the disk is then known. */
-static struct { bool busy; uint32_t op, count, tag; uint64_t sector; } requests[SLOTS];
-static uint32_t produced, consumed;
-static uint64_t submitted, answered, sectors, words_seen, suspends, odd_answers;
-static bool gave_up;
-static struct { bool barrier, flush_cache, discard; } features; /* which the back's keys offer */
+static struct vbd_front front;
+static struct { bool busy; uint32_t id, left; struct vbd_submission of; } requests[MOST];
+static uint64_t moves, taken, answered, refusals, sectors, words_seen, suspends, odd_answers;
+static bool ready, closing, closed, gave_up;
 
-/* What an honest back never does. Beside a hostile hand the front gives up where the ring is wrong, and goes on where data are. */
-static void wrong(const char *what) {
-    if (!options.hostile) die("the front: %s", what);
-    if (!gave_up) printf("front: gives up: %s\n", what);
-    gave_up = true;
-}
+/* What an honest back never does. Beside a hostile hand the front may break, and read what isn't on the disk. */
 static void odd(const char *what) {
     if (!options.hostile) die("the front: %s", what);
     odd_answers++;
 }
 
-static uint32_t frame_of(uint32_t slot, uint32_t page) { return DATA_FRAME + slot * MOST_PAGES + page; }
-static uint32_t gref_of(uint32_t slot, uint32_t page) { return DATA_GREF + slot * MOST_PAGES + page; }
-static uint32_t pages_of(uint32_t slot) { return (requests[slot].count + PAGE_SECTORS - 1) / PAGE_SECTORS; }
-static bool has_data(uint32_t op) { return op <= BARRIER; }
-
-static void set_state(int state) {
-    char text[8];
-    snprintf(text, sizeof text, "%d", state);
-    set_key(FRONT_KEYS "/state", text);
-}
-
-/* Waits until the back's state is one of these. */
-static void wait_for_state(int state, int other) {
-    for (;;) {
-        int seen = (int)get_number(BACK_KEYS, "state", 0);
-        struct pollfd until = {outside.watch[FRONT], POLLIN, 0};
-        if (seen == state || seen == other || gave_up) return;
-        if (poll(&until, 1, options.hostile ? 1000 : 20000) == 0) wrong("the back's state doesn't come");
-        woken(outside.watch[FRONT]);
-    }
-}
-
-static void connect_to_back(void) {
-    char text[16];
-    wait_for_state(INIT_WAIT, INIT_WAIT);
-    for (uint32_t index = REQ_PROD; index <= RSP_EVENT; index++) /* SHARED_RING_INIT: each event is one ahead */
-        store_word(RING_FRAME, index, options.start + index % 2);
-    produced = consumed = options.start;
-    grant(RING_GREF, RING_FRAME, false);
-    snprintf(text, sizeof text, "%d", RING_GREF);
-    set_key(FRONT_KEYS "/ring-ref", text);
-    snprintf(text, sizeof text, "%d", PORT);
-    set_key(FRONT_KEYS "/event-channel", text);
-    set_key(FRONT_KEYS "/protocol", "x86_64-abi");
-    set_state(INITIALISED);
-    wait_for_state(CONNECTED, CLOSED);
-    if (get_number(BACK_KEYS, "sectors", 0) != disk_sectors()) wrong("the disk has another size"); /* or the back couldn't connect */
-    features.barrier = get_number(BACK_KEYS, "feature-barrier", 0) == 1;
-    features.flush_cache = get_number(BACK_KEYS, "feature-flush-cache", 0) == 1;
-    features.discard = get_number(BACK_KEYS, "feature-discard", 0) == 1;
-    set_state(CONNECTED);
-}
-
-/* The words of the data of a request: filled before a write, compared after a read. */
-static void fill(uint32_t slot) {
-    for (uint32_t i = 0; i < requests[slot].count; i++)
-        for (uint32_t word = 0; word < SECTOR_WORDS; word++)
-            store_word(frame_of(slot, i / PAGE_SECTORS), i % PAGE_SECTORS * SECTOR_WORDS + word,
-                       word_of(requests[slot].tag, requests[slot].sector + i, word));
-}
-static void compare(uint32_t slot) {
-    for (uint32_t i = 0; i < requests[slot].count; i++)
-        for (uint32_t word = 0; word < SECTOR_WORDS; word++, words_seen++) {
-            uint64_t sector = requests[slot].sector + i;
-            uint32_t seen = load_word(frame_of(slot, i / PAGE_SECTORS), i % PAGE_SECTORS * SECTOR_WORDS + word);
-            if (seen != word_on_disk(sector, word)) return odd("a word that was read is wrong");
-        }
-}
-
-static void put_request(uint32_t slot) {
-    uint32_t base = 16 + produced % SLOTS * SLOT_WORDS, op = requests[slot].op, pages = has_data(op) ? pages_of(slot) : 0;
-    if (op == WRITE || op == BARRIER) fill(slot);
-    store_word(RING_FRAME, base, op | pages << 8);
-    store_word(RING_FRAME, base + 2, slot);
-    store_word(RING_FRAME, base + 3, 0);
-    store_word(RING_FRAME, base + 4, (uint32_t)requests[slot].sector);
-    store_word(RING_FRAME, base + 5, (uint32_t)(requests[slot].sector >> 32));
-    for (uint32_t page = 0; page < pages; page++) {
-        uint32_t left = requests[slot].count - page * PAGE_SECTORS, last = (left < PAGE_SECTORS ? left : PAGE_SECTORS) - 1;
-        grant(gref_of(slot, page), frame_of(slot, page), op != READ);
-        store_word(RING_FRAME, base + 6 + 2 * page, gref_of(slot, page));
-        store_word(RING_FRAME, base + 7 + 2 * page, last << 8);
-    }
-    if (op == DISCARD) {
-        store_word(RING_FRAME, base + 6, requests[slot].count);
-        store_word(RING_FRAME, base + 7, 0);
-    }
-    produced++;
-}
-
-/* RING_PUSH_REQUESTS_AND_CHECK_NOTIFY. */
-static void push(uint32_t before) {
-    if (produced == before) return;
-    full_fence();
-    store_word(RING_FRAME, REQ_PROD, produced);
-    full_fence();
-    if (produced - load_word(RING_FRAME, REQ_EVENT) < produced - before) wake(outside.event[BACK]);
-}
-
-static uint32_t any_operation(void) {
-    uint64_t kind = any(100);
-    if (kind < 45 || options.read_only) return READ;
-    if (kind < 48 && features.barrier) return BARRIER;
-    if (kind < 50 && features.flush_cache) return FLUSH;
-    return kind < 53 && features.discard ? DISCARD : WRITE;
-}
-
-/* Has requests served while some are left and free. */
-static void submit(void) {
-    uint32_t before = produced;
-    for (uint32_t slot = 0; slot < options.depth && submitted < options.requests; slot++) {
-        if (requests[slot].busy || (submitted > answered && any(4) == 0)) continue; /* never asleep with none in flight */
-        uint64_t most = options.sectors_each;
-        requests[slot].busy = true;
-        requests[slot].op = any_operation();
-        requests[slot].count = 1 + (uint32_t)any(most);
-        requests[slot].sector = slot * most + any(most - requests[slot].count + 1);
-        requests[slot].tag = 1 + (uint32_t)any(UINT32_MAX);
-        if (requests[slot].op == FLUSH) requests[slot].sector = requests[slot].count = 0;
-        put_request(slot);
-        submitted++;
-    }
-    push(before);
-}
-
-/* The domain is suspended and resumes: what lay between both ends is gone, and what isn't answered is asked for anew. */
-static void suspend(void) {
-    struct pollfd until = {outside.resumed, POLLIN, 0};
-    wake(outside.suspend);
-    if (poll(&until, 1, 20000) == 0) return wrong("the domain doesn't resume");
-    woken(outside.resumed), woken(outside.event[FRONT]), woken(outside.watch[FRONT]);
-    connect_to_back();
-    for (uint32_t slot = 0; slot < options.depth; slot++)
-        if (requests[slot].busy) put_request(slot);
-    push(options.start);
-}
-
-static void finish(uint32_t slot) {
-    for (uint32_t page = 0; has_data(requests[slot].op) && page < pages_of(slot); page++)
-        if (!end_grant(gref_of(slot, page))) odd("a frame is still mapped after its answer");
-    if (requests[slot].op == READ) compare(slot);
-    for (uint32_t i = 0; i < requests[slot].count && requests[slot].op != READ; i++)
-        wrote_sector(requests[slot].sector + i, requests[slot].op == DISCARD ? 0 : requests[slot].tag);
-    sectors += has_data(requests[slot].op) ? requests[slot].count : 0;
+static void finish(uint64_t slot) {
+    const struct vbd_submission *of = &requests[slot].of;
+    for (uint32_t i = 0; i < of->count && of->op != VBD_OP_READ; i++)
+        filled_sector(of->sector + i, of->op == VBD_OP_DISCARD ? 0 : of->tag + i);
+    if (of->op <= VBD_OP_BARRIER) sectors += of->count;
     requests[slot].busy = false;
     answered++;
 }
 
-/* Takes the responses; RING_FINAL_CHECK_FOR_RESPONSES. False once none is left. */
-static bool take_responses(void) {
-    uint32_t pushed = load_word(RING_FRAME, RSP_PROD);
-    if (pushed - consumed > produced - consumed) return wrong("more responses than requests"), false;
-    full_fence();
-    for (; consumed != pushed && !gave_up; consumed++) {
-        uint32_t base = 16 + consumed % SLOTS * SLOT_WORDS, slot = load_word(RING_FRAME, base);
-        uint32_t high = load_word(RING_FRAME, base + 1), last = load_word(RING_FRAME, base + 2);
-        if (high || slot >= options.depth || !requests[slot].busy) return wrong("a response to no request"), false;
-        if ((last & 255) != requests[slot].op || last >> 16) odd("a request failed");
-        finish(slot);
+/* After the answer of a read come its sectors. */
+static void answer_came(const struct vbd_front_told *told, uint64_t slot) {
+    if (told->status) odd("a request failed");
+    requests[slot].left = requests[slot].of.op == VBD_OP_READ && !told->status ? requests[slot].of.count : 0;
+    if (!requests[slot].left) finish(slot);
+}
+static void sector_came(const struct vbd_front_told *told, uint64_t slot) {
+    uint64_t sector = requests[slot].of.sector + told->index;
+    for (uint32_t word = 0; word < SECTOR_WORDS; word++, words_seen++)
+        if (told->words[word] != word_on_disk(sector, word)) odd("a word that was read is wrong");
+    if (!--requests[slot].left) finish(slot);
+}
+
+static void take(uint32_t status, uint32_t kind) {
+    struct vbd_front_told told;
+    uint64_t slot = 0;
+    if (status == VBD_DONE) return;
+    if (status != VBD_TOLD || !vbd_front_told(&front, &told)) die("status %u of an answer to ask %u of the front", status, kind);
+    while (slot < options.depth && !(requests[slot].busy && requests[slot].id == told.id)) slot++;
+    if (told.kind <= VBD_SECTOR && slot == options.depth) die("the front tells of request %u, which isn't in flight", told.id);
+    switch (told.kind) {
+    case VBD_ANSWER: answer_came(&told, slot); break;
+    case VBD_SECTOR: sector_came(&told, slot); break;
+    case VBD_BROKEN: odd("it is broken"), gave_up = true; break;
+    case VBD_READY: ready = true; break;
+    case VBD_NOW_CLOSING: closing = true; break;
+    default: closed = true;
     }
-    store_word(RING_FRAME, RSP_EVENT, consumed + 1);
-    full_fence();
-    return load_word(RING_FRAME, RSP_PROD) != consumed;
+}
+static void answer(uint32_t kind, uint32_t word, uint32_t asked) {
+    struct vbd_answer given = {kind, word, 0};
+    take(vbd_front_complete(&front, &given), asked);
+}
+
+static void key(uint32_t kind) {
+    uint8_t path[TEXT_ROOM] = {0}, text[TEXT_ROOM] = {0};
+    vbd_front_path(&front, path, sizeof path - 1);
+    if (kind == VBD_SET_KEY) {
+        vbd_front_text(&front, text, sizeof text - 1);
+        set_key((char *)path, (char *)text);
+        answer(VBD_OK, 0, kind);
+    } else if (!get_key((char *)path, (char *)text)) {
+        answer(VBD_NO_KEY, 0, kind);
+    } else {
+        uint32_t status = vbd_front_key(&front, text, strlen((char *)text));
+        if (status == VBD_OUT_OF_RANGE) answer(VBD_NO_KEY, 0, kind); /* too long, or no UTF-8 */
+        else take(status, kind);
+    }
+}
+
+/* One move of the front; false where it waits. */
+static bool move(void) {
+    struct vbd_front_ask ask;
+    if (vbd_front_ask(&front, &ask) != VBD_DONE || ask.kind == VBD_WAIT) return false;
+    moves++;
+    switch (ask.kind) {
+    case VBD_FENCE: full_fence(); break;
+    case VBD_READ: answer(VBD_WORD, load_word(ask.frame, ask.word), ask.kind); return true;
+    case VBD_WRITE: store_word(ask.frame, ask.word, ask.value); break;
+    case VBD_CAS: answer(VBD_WORD, exchange_word(ask.frame, ask.word, ask.expected, ask.value), ask.kind); return true;
+    case VBD_NEW_PORT: answer(VBD_PORT, 1, ask.kind); return true; /* the only port that the back binds */
+    case VBD_SEND: delay(), wake(outside.event[BACK]); break;
+    case VBD_CLOSE_PORT: break;
+    case VBD_GET_KEY:
+    case VBD_SET_KEY: key(ask.kind); return true;
+    case VBD_WATCH: wake(outside.watch[FRONT]); break;
+    default: die("the front asks for %u", ask.kind);
+    }
+    answer(VBD_OK, 0, ask.kind);
+    return true;
+}
+
+static void draw(uint64_t slot) {
+    static const uint32_t ops[] = {VBD_OP_BARRIER, VBD_OP_FLUSH, VBD_OP_DISCARD};
+    struct vbd_submission *of = &requests[slot].of;
+    uint64_t kind = any(100), most = options.sectors_each;
+    of->op = kind < 45 || options.read_only ? VBD_OP_READ : kind < 92 ? VBD_OP_WRITE : ops[kind % 3];
+    if (of->op == VBD_OP_BARRIER && most > DIRECT_SECTORS) most = DIRECT_SECTORS; /* no barrier is indirect */
+    of->count = of->op == VBD_OP_FLUSH ? 0 : 1 + (uint32_t)any(most);
+    of->sector = of->op == VBD_OP_FLUSH ? 0 : slot * options.sectors_each + any(options.sectors_each - of->count + 1);
+    of->tag = 1 + (uint32_t)any(UINT32_MAX);
+}
+
+/* Hands it requests while some are left. One that is refused for want of room is kept, and tried again once another is answered. */
+static void submit(void) {
+    static uint64_t kept = MOST, tried_at; /* the slot of one that was refused, when so many were answered */
+    if (kept < MOST && tried_at == answered && taken > answered) return;
+    for (uint64_t slot = 0; ready && !closing && slot < options.depth && taken < options.requests; slot++) {
+        if (requests[slot].busy || (kept < MOST && kept != slot) || (taken > answered && any(4) == 0)) continue;
+        if (kept != slot) draw(slot);
+        uint32_t status;
+        while ((status = vbd_front_submit(&front, &requests[slot].of, &requests[slot].id)) == VBD_UNSUPPORTED) draw(slot);
+        if (status == VBD_NOT_READY && gave_up) return;
+        if (status != VBD_DONE && status != VBD_FULL && status != VBD_BUFFERS) die("the front refuses a request: %u", status);
+        kept = MOST;
+        if (status == VBD_DONE) requests[slot].busy = true, taken++;
+        else if (taken == answered) die("the front refuses a request with none in flight: %u", status);
+        else { kept = slot, tried_at = answered, refusals++; return; }
+    }
+}
+
+/* The domain is suspended and resumes: what lay between both ends is gone, and the front issues anew what isn't answered. */
+static void suspend(void) {
+    struct pollfd until = {outside.resumed, POLLIN, 0};
+    wake(outside.suspend);
+    if (poll(&until, 1, 20000) == 0) die("the domain doesn't resume");
+    woken(outside.resumed), woken(outside.event[FRONT]), woken(outside.watch[FRONT]);
+    if (vbd_front_suspend(&front) != VBD_DONE) die("the front can't be suspended");
+    ready = false;
+    suspends++;
+}
+
+static void wait(void) {
+    static const char path[] = BACK_KEYS "/state";
+    struct pollfd until[] = {{outside.event[FRONT], POLLIN, 0}, {outside.watch[FRONT], POLLIN, 0}};
+    if (poll(until, 2, options.hostile ? 1000 : 20000) == 0) odd("an event is lost"), gave_up = true;
+    else if (woken(outside.watch[FRONT])) take(vbd_front_watched(&front, (const uint8_t *)path, sizeof path - 1), VBD_WAIT);
+    else if (woken(outside.event[FRONT])) answer(VBD_EVENT, 0, VBD_WAIT);
+}
+
+/* Moves it until it is closed, as it is asked to be once all is answered. */
+static void serve(void) {
+    bool asked = false;
+    while (!closed && !gave_up) {
+        if (suspends < options.suspends && answered > suspends * options.requests / options.suspends && any(256) == 0) suspend();
+        if (answered == options.requests && !asked) asked = true, take(vbd_front_close(&front), VBD_WAIT);
+        if (any(64) == 0 || taken == answered) submit();
+        if (move()) continue;
+        submit();
+        if (!move()) wait();
+    }
 }
 
 int run_front(void) {
     struct timespec began, ended;
+    struct vbd_front_options made = {options.order, options.start, options.x86_32};
     seed_of_thread(FRONT);
     map_memory();
     make_image();
-    connect_to_back();
+    if (vbd_front_new(&front, &made) != VBD_DONE) die("the front can't be made");
     clock_gettime(CLOCK_MONOTONIC, &began);
-    while (!gave_up && answered < options.requests) {
-        if (suspends < options.suspends && answered > suspends * options.requests / options.suspends) suspends++, suspend();
-        if (take_responses()) continue;
-        submit();
-        struct pollfd until = {outside.event[FRONT], POLLIN, 0};
-        if (answered == options.requests || gave_up) break;
-        if (poll(&until, 1, options.hostile ? 1000 : 20000) == 0) wrong("an event is lost");
-        woken(outside.event[FRONT]);
-    }
+    serve();
     clock_gettime(CLOCK_MONOTONIC, &ended);
-    set_state(CLOSING);
-    wait_for_state(CLOSED, CLOSED);
-    if (!end_grant(RING_GREF)) wrong("the ring is still mapped");
-    set_state(CLOSED);
+    if (!closed) set_key(FRONT_KEYS "/state", "6"); /* as a toolstack does for a domain that is gone */
     wake(outside.stopped);
     if (!options.hostile) compare_image();
     double seconds = (double)(ended.tv_sec - began.tv_sec) + (double)(ended.tv_nsec - began.tv_nsec) / 1e9;
     printf("front: %" PRIu64 " requests, %" PRIu64 " answered, %" PRIu64 " sectors, %" PRIu64 " words compared, %" PRIu64 " suspends, "
-           "in %.2f seconds", submitted, answered, sectors, words_seen, suspends, seconds);
-    if (options.hostile) printf("; %" PRIu64 " answers, words or grants were odd\n", odd_answers);
-    else printf("; the image is as it should be\n");
+           "%" PRIu64 " moves, %" PRIu64 " waited for room, in %.2f seconds; ", taken, answered, sectors, words_seen, suspends, moves, refusals, seconds);
+    if (options.hostile) printf("%" PRIu64 " answers or words were odd\n", odd_answers);
+    else printf("the image is as it should be\n");
+    vbd_front_free(&front);
     return 0;
 }

@@ -20,21 +20,24 @@ struct options options = {.requests = 20000, .depth = 32, .sectors_each = 8, .se
 struct outside outside;
 
 static const char usage[] =
-    "host: the proved back of a Xen block device on real shared memory, beside a plain front\n"
+    "host: the proved front and the proved back of a Xen block device on real shared memory\n"
     "\n"
-    "    host [--requests N] [--depth N] [--sectors N] [--suspends N] [--start N] [--seed N] [--image FILE]\n"
-    "         [--read-only] [--delays] [--hostile] [--threads]\n"
+    "    host [--requests N] [--depth N] [--sectors N] [--order N] [--indirect N] [--abi 32|64] [--suspends N] [--start N]\n"
+    "         [--seed N] [--image FILE] [--read-only] [--delays] [--hostile] [--threads]\n"
     "\n"
     "    --requests N   so many requests are served (20000)\n"
-    "    --depth N      up to so many at once, 1 to 32 (32)\n"
-    "    --sectors N    of up to so many sectors, 1 to 88 (8)\n"
+    "    --depth N      up to so many at once, 1 to 512 (32); what the ring has no entry for waits\n"
+    "    --sectors N    of up to so many sectors, 1 to 88, or to 8 times the segments of --indirect (8)\n"
+    "    --order N      the ring has 2^N pages, 0 to 4 (0)\n"
+    "    --indirect N   an indirect request may have so many segments, 0 to 960; 0 turns them off (0)\n"
+    "    --abi N        the layout of the ring's entries: 64, of x86_64, or 32, of x86_32 (64)\n"
     "    --suspends N   the guest's domain is suspended so many times meanwhile (0)\n"
     "    --start N      the ring's first index, 0 to 4294967295 (0)\n"
     "    --seed N       what is asked for, and the delays (1)\n"
     "    --image FILE   the disk, which is made anew; else a file that is gone at the end\n"
     "    --read-only    the disk is for reading alone\n"
     "    --delays       each word, key and call comes after a random delay\n"
-    "    --hostile      a third process overwrites words of grants, ring and data; the front gives up at what is wrong then\n"
+    "    --hostile      a third process overwrites words of grants, ring and data; the front may break then\n"
     "    --threads      threads in place of processes\n"
     "\n"
     "It ends with status 0 where every request was answered, the data and the image are as they should be, and the back holds\n"
@@ -180,14 +183,19 @@ int main(int count, char **words) {
         else if (!strcmp(word, "--hostile")) options.hostile = true;
         else if (!strcmp(word, "--threads")) options.threads = true;
         else if (!strcmp(word, "--requests")) options.requests = number(word, next, 0, 1000000000), i++;
-        else if (!strcmp(word, "--depth")) options.depth = number(word, next, 1, 32), i++;
-        else if (!strcmp(word, "--sectors")) options.sectors_each = number(word, next, 1, 88), i++;
+        else if (!strcmp(word, "--depth")) options.depth = number(word, next, 1, 512), i++;
+        else if (!strcmp(word, "--sectors")) options.sectors_each = number(word, next, 1, 7680), i++;
+        else if (!strcmp(word, "--order")) options.order = (uint32_t)number(word, next, 0, 4), i++;
+        else if (!strcmp(word, "--indirect")) options.indirect = (uint32_t)number(word, next, 0, 960), i++;
+        else if (!strcmp(word, "--abi") && next && (!strcmp(next, "32") || !strcmp(next, "64"))) options.x86_32 = *next == '3', i++;
         else if (!strcmp(word, "--suspends")) options.suspends = number(word, next, 0, 1000000), i++;
         else if (!strcmp(word, "--start")) options.start = (uint32_t)number(word, next, 0, UINT32_MAX), i++;
         else if (!strcmp(word, "--seed")) options.seed = number(word, next, 0, UINT32_MAX), i++;
         else if (!strcmp(word, "--image") && next) options.image = next, i++;
         else return fprintf(stderr, "host: %s is no word of it; host --help says which are\n", word), 2;
     }
+    if (options.sectors_each > (options.indirect > 11 ? 8 * options.indirect : 88))
+        return fputs("host: --sectors wants more segments of --indirect\n", stderr), 2;
     seed_of_thread(ENDS);
     open_outside();
     fflush(0);

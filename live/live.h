@@ -22,8 +22,8 @@ enum { INITIALISING = 1, INIT_WAIT, INITIALISED, CONNECTED, CLOSING, CLOSED }; /
 
 struct options {
     uint64_t requests, depth, sectors_each, suspends, seed;
-    uint32_t start;
-    bool read_only, delays, hostile, threads;
+    uint32_t start, order, indirect;
+    bool x86_32, read_only, delays, hostile, threads;
     const char *image;
 };
 extern struct options options;
@@ -47,6 +47,7 @@ bool woken(int descriptor);
 void map_memory(void);
 uint32_t load_word(uint32_t frame, uint32_t word);
 void store_word(uint32_t frame, uint32_t word, uint32_t value);
+uint32_t exchange_word(uint32_t frame, uint32_t word, uint32_t expected, uint32_t value);
 void full_fence(void);
 void grant(uint32_t gref, uint32_t frame, bool readonly);
 bool end_grant(uint32_t gref);
@@ -70,8 +71,9 @@ void make_image(void);
 uint32_t word_of(uint32_t tag, uint64_t sector, uint32_t word);
 uint32_t word_on_disk(uint64_t sector, uint32_t word);
 void wrote_sector(uint64_t sector, uint32_t tag);
+void filled_sector(uint64_t sector, uint32_t word);
 void compare_image(void);
 
 int run_back(void);  /* back.c: the proved back */
-int run_front(void); /* front.c: a plain front, of which nothing is proved */
+int run_front(void); /* front.c: the proved front */
 #endif

@@ -25,6 +25,12 @@ void store_word(uint32_t frame, uint32_t word, uint32_t value) {
     delay();
     atomic_store_explicit(place(frame, word), value, WORD_ORDER);
 }
+/* Compares and exchanges; the word that stood there. */
+uint32_t exchange_word(uint32_t frame, uint32_t word, uint32_t expected, uint32_t value) {
+    delay();
+    atomic_compare_exchange_strong(place(frame, word), &expected, value);
+    return expected;
+}
 void full_fence(void) {
     delay();
     atomic_thread_fence(memory_order_seq_cst);

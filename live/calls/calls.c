@@ -30,12 +30,12 @@ static void a_handle_without_a_back(void) {
     struct vbd_options wide = {8, 961, 0, false};
     uint32_t words[128] = {0};
     uint8_t bytes[80];
-    HOLDS(vbd_back_ask(&back, 0, &ask) == VBD_NO_BACK && ask.kind == 99);
-    HOLDS(answered(0, VBD_OK, 0) == VBD_NO_BACK && vbd_back_mapped(&back, 0, 1) == VBD_NO_BACK && key("4") == VBD_NO_BACK);
-    HOLDS(vbd_back_sector(&back, 0, words, 128) == VBD_NO_BACK && !vbd_back_words(&back, 1, words, 128));
+    HOLDS(vbd_back_ask(&back, 0, &ask) == VBD_EMPTY && ask.kind == 99);
+    HOLDS(answered(0, VBD_OK, 0) == VBD_EMPTY && vbd_back_mapped(&back, 0, 1) == VBD_EMPTY && key("4") == VBD_EMPTY);
+    HOLDS(vbd_back_sector(&back, 0, words, 128) == VBD_EMPTY && !vbd_back_words(&back, 1, words, 128));
     HOLDS(vbd_back_path(&back, bytes, 80) == 0 && vbd_back_text(&back, bytes, 80) == 0 && vbd_back_halt_key(&back, bytes, 80) == 0);
     HOLDS(!vbd_back_told(&back, &told) && told.kind == 99 && !vbd_back_halted(&back, &halt) && halt.kind == 99);
-    HOLDS(vbd_back_next_job(&back, 0) == 0 && vbd_back_close(&back) == VBD_NO_BACK && vbd_back_suspend(&back, 0, true) == VBD_NO_BACK);
+    HOLDS(vbd_back_next_job(&back, 0) == 0 && vbd_back_close(&back) == VBD_EMPTY && vbd_back_suspend(&back, 0, true) == VBD_EMPTY);
     HOLDS(vbd_back_new(&back, &wide) == VBD_OUT_OF_RANGE);
     vbd_back_free(&back);
 }

@@ -1,4 +1,4 @@
-/* The back of a Xen block device (io/blkif.h, io/ring.h, io/xenbus.h) as a machine that a program moves.
+/* The back of a Xen block device (io/blkif.h, io/ring.h, io/xenbus.h) as a machine that a program moves; vbd_front.h has the front.
  *
  * A program asks what the back, or a job of it, wants done next, does that, and answers. Nothing blocks, and nothing is
  * called back. An answer that the ask doesn't allow is refused and changes nothing, so no misuse of an answer breaks what
@@ -32,7 +32,7 @@ enum vbd_status {
     VBD_EMPTY,        /* the handle has none */
     VBD_IN_USE,       /* the handle has one already */
     VBD_NO_MEMORY,
-    VBD_OUT_OF_RANGE, /* an option; or a text that is too long or no UTF-8; or no submission of a front */
+    VBD_OUT_OF_RANGE, /* an option; a text that is too long or no UTF-8; no submission of a front */
 };
 
 /* The disk's number of 512-byte sectors; the most segments of an indirect request, 0 to 960, where 0 turns them off; the

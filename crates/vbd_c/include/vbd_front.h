@@ -3,7 +3,7 @@
  * A program asks what the front wants done next, does that, and answers; it hands the front requests, and takes what became of
  * them. An answer that the ask doesn't allow is refused and changes nothing, and so is a request that can't be taken. Which
  * words are touched, which frames are granted and when an event is sent is the front's to say. After vbd_front_new it takes no
- * memory. What the caller owes is what vbd.h says, and: what is told is taken before the next answer. */
+ * memory. What the caller owes is what vbd.h says. */
 #ifndef VBD_FRONT_H
 #define VBD_FRONT_H
 #include "vbd.h"

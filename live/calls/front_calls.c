@@ -1,0 +1,115 @@
+/* Each call of vbd_front.h by itself: what it answers, and that what is refused changes nothing. Prints what is wrong. */
+#include "vbd_front.h"
+#include <stdio.h>
+#include <string.h>
+
+#define BACK "/local/domain/0/backend/vbd/1/51712"
+#define FRONT "/local/domain/1/device/vbd/51712"
+
+static int wrong;
+#define HOLDS(what) ((what) ? (void)0 : (void)(wrong++, printf("front_calls: line %d: %s doesn't hold\n", __LINE__, #what)))
+
+static struct vbd_front front;
+static struct vbd_front_ask asked(void) {
+    struct vbd_front_ask ask = {.kind = 99};
+    HOLDS(vbd_front_ask(&front, &ask) == VBD_DONE);
+    return ask;
+}
+static uint32_t answered(uint32_t kind, uint32_t word) {
+    struct vbd_answer answer = {kind, word, 0};
+    return vbd_front_complete(&front, &answer);
+}
+static int path_is(const char *path) {
+    uint8_t bytes[80];
+    return vbd_front_path(&front, bytes, 80) == strlen(path) && !memcmp(bytes, path, strlen(path));
+}
+static int text_is(const char *text) {
+    uint8_t bytes[64];
+    return vbd_front_text(&front, bytes, 64) == strlen(text) && !memcmp(bytes, text, strlen(text));
+}
+static uint32_t key(const char *text) { return vbd_front_key(&front, (const uint8_t *)text, strlen(text)); }
+static uint32_t submitted(uint32_t op, uint32_t count, uint64_t sector, uint32_t *id) {
+    struct vbd_submission submission = {op, count, 7, sector};
+    return vbd_front_submit(&front, &submission, id);
+}
+static uint32_t unfinished(void) {
+    struct vbd_owed owed = {99, 99};
+    return vbd_front_owed(&front, &owed) == VBD_DONE ? owed.requests : 99;
+}
+
+static void a_handle_without_a_front(void) {
+    struct vbd_front_ask ask = {.kind = 99};
+    struct vbd_front_told told = {.kind = 99};
+    struct vbd_front_options wide = {5, 0, false};
+    struct vbd_owed owed = {99, 99};
+    uint8_t bytes[80];
+    uint32_t id = 99;
+    HOLDS(vbd_front_ask(&front, &ask) == VBD_EMPTY && ask.kind == 99 && answered(VBD_OK, 0) == VBD_EMPTY && key("4") == VBD_EMPTY);
+    HOLDS(vbd_front_path(&front, bytes, 80) == 0 && vbd_front_text(&front, bytes, 80) == 0 && !vbd_front_told(&front, &told) && told.kind == 99);
+    HOLDS(submitted(VBD_OP_FLUSH, 0, 0, &id) == VBD_EMPTY && id == 99 && vbd_front_owed(&front, &owed) == VBD_EMPTY && owed.requests == 99);
+    HOLDS(vbd_front_close(&front) == VBD_EMPTY && vbd_front_suspend(&front) == VBD_EMPTY && vbd_front_new(&front, &wide) == VBD_OUT_OF_RANGE);
+    vbd_front_free(&front);
+}
+
+/* It watches the back's state, and reads it until it is InitWait (2); meanwhile nothing but the answer of an ask's kind is taken. */
+static void it_waits_for_its_back(void) {
+    static const uint8_t no_text[] = {0xff, 0xfe};
+    char long_text[65];
+    uint32_t id = 99;
+    memset(long_text, '4', sizeof long_text);
+    HOLDS(asked().kind == VBD_WATCH && path_is(BACK "/state") && text_is(""));
+    HOLDS(answered(VBD_EVENT, 0) == VBD_NOT_ALLOWED && answered(VBD_WORD, 7) == VBD_NOT_ALLOWED && answered(77, 0) == VBD_NOT_ALLOWED);
+    HOLDS(key("1") == VBD_NOT_ALLOWED && vbd_front_watched(&front, no_text, 2) == VBD_OUT_OF_RANGE && asked().kind == VBD_WATCH);
+    HOLDS(submitted(VBD_OP_READ, 1, 0, &id) == VBD_NOT_READY && id == 99 && submitted(VBD_OP_READ, 0, 0, &id) == VBD_OUT_OF_RANGE);
+    HOLDS(submitted(4, 1, 0, &id) == VBD_OUT_OF_RANGE && unfinished() == 0 && asked().kind == VBD_WATCH);
+    HOLDS(answered(VBD_OK, 0) == VBD_DONE);
+    if (asked().kind == VBD_WAIT) HOLDS(vbd_front_watched(&front, (const uint8_t *)BACK "/state", strlen(BACK "/state")) == VBD_DONE);
+    HOLDS(asked().kind == VBD_GET_KEY && path_is(BACK "/state"));
+    HOLDS(vbd_front_key(&front, (uint8_t *)long_text, 65) == VBD_OUT_OF_RANGE && key("2") == VBD_DONE);
+}
+
+/* It makes its ring from frame 2 on, whose reference is 8, says so in its keys, and connects as its back has (4). */
+static void it_connects(void) {
+    static const char *const offered[][2] = {{BACK "/sectors", "100"}, {BACK "/sector-size", "512"}, {BACK "/info", "0"}, {BACK "/state", "4"}};
+    struct vbd_front_told told = {.kind = 99};
+    uint32_t status = VBD_DONE, writes = 0;
+    for (int i = 0; i < 200 && status != VBD_TOLD; i++) {
+        struct vbd_front_ask ask = asked();
+        const char *text = 0;
+        for (int k = 0; k < 4; k++) if (path_is(offered[k][0])) text = offered[k][1];
+        if (ask.kind == VBD_WRITE) HOLDS(ask.frame == 2 || (ask.frame == 0 && ask.word / 2 == 8)), writes++;
+        if (path_is(FRONT "/ring-ref")) HOLDS(text_is("8"));
+        if (path_is(FRONT "/event-channel")) HOLDS(text_is("5"));
+        if (ask.kind == VBD_GET_KEY) status = text ? key(text) : answered(VBD_NO_KEY, 0);
+        else if (ask.kind == VBD_WAIT) status = vbd_front_watched(&front, (const uint8_t *)BACK "/state", strlen(BACK "/state"));
+        else if (ask.kind != VBD_NEW_PORT) status = answered(VBD_OK, 0);
+        else status = answered(VBD_OK, 0) == VBD_NOT_ALLOWED ? answered(VBD_PORT, 5) : VBD_NOT_ALLOWED;
+    }
+    HOLDS(status == VBD_TOLD && writes == 18); /* the ring's first 16 words, and the grant's two */
+    HOLDS(answered(VBD_OK, 0) == VBD_UNTOLD && vbd_front_close(&front) == VBD_UNTOLD);
+    HOLDS(vbd_front_told(&front, &told) && told.kind == VBD_READY && !vbd_front_told(&front, &told));
+}
+
+static void it_takes_and_refuses_requests(void) {
+    uint32_t id = 99;
+    HOLDS(submitted(VBD_OP_FLUSH, 0, 0, &id) == VBD_UNSUPPORTED && submitted(VBD_OP_DISCARD, 1, 0, &id) == VBD_UNSUPPORTED);
+    HOLDS(submitted(VBD_OP_READ, 1, 100, &id) == VBD_RANGE && submitted(VBD_OP_WRITE, 89, 0, &id) == VBD_LONG && id == 99 && unfinished() == 0);
+    for (uint32_t i = 1; i <= 32; i++) HOLDS(submitted(VBD_OP_WRITE, 1, i, &id) == VBD_DONE && id == i && unfinished() == i);
+    HOLDS(submitted(VBD_OP_READ, 1, 0, &id) == VBD_FULL && id == 32 && unfinished() == 32);
+    struct vbd_front_ask ask;
+    do ask = asked(); while (ask.kind != VBD_WRITE && answered(ask.kind == VBD_READ ? VBD_WORD : VBD_OK, 0) == VBD_DONE);
+    HOLDS(ask.frame == 18 && ask.word == 0 && ask.value == 7); /* the first word of the first write's data */
+    HOLDS(vbd_front_suspend(&front) == VBD_DONE && unfinished() == 32 && submitted(VBD_OP_READ, 1, 0, &id) == VBD_NOT_READY);
+}
+
+int main(void) {
+    struct vbd_front_options options = {0, 0, false};
+    a_handle_without_a_front();
+    HOLDS(vbd_front_new(&front, &options) == VBD_DONE && vbd_front_new(&front, &options) == VBD_IN_USE);
+    it_waits_for_its_back();
+    it_connects();
+    it_takes_and_refuses_requests();
+    HOLDS(vbd_front_close(&front) == VBD_TOLD);
+    vbd_front_free(&front);
+    return wrong != 0;
+}
