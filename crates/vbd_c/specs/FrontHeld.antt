@@ -1,5 +1,5 @@
 -- What each call makes of a handle of a front, which has one or none.
-use Rattle.std.specs.Prelude.{◌≡◌, ℕ, Bool, true, false, List, [], Option, Some, None, IsSome, Result, Ok, Err, if◌then◌else◌, nat_lt}
+use Rattle.std.specs.Prelude.{◌≡◌, ℕ, Bool, true, false, List, [], Option, Some, None, Result, Ok, Err, if◌then◌else◌, nat_lt}
 use Rattle.blk_base.specs.Options.{Options}
 use Rattle.blk_base.specs.declared.operation.Abi.{Abi}
 use Rattle.blk_base.specs.declared.operation.Abi.TheVariants.{X64, X32}
@@ -8,7 +8,7 @@ use Rattle.blk_base.specs.declared.ask.FrontAnswer.TheVariants.{Key, Watched}
 use Rattle.blk_base.specs.declared.config.Submission.{Submission}
 use Rattle.blk_base.specs.declared.refusal.Refusal.{Refusal}
 use Rattle.blk_front.specs.Submit.{submit_of, unfinished, sectors_owed}
-use Rattle.vbd_front.specs.View.{View, start_of, heard}
+use Rattle.vbd_front.specs.View.{View, heard}
 use Rattle.vbd_front.specs.Ask.{ask_of}
 use Rattle.vbd_front.specs.Step.{suspended}
 use Rattle.vbd_c.specs.declared.options.FrontOptions.{FrontOptions}
@@ -17,7 +17,6 @@ use Rattle.vbd_c.specs.declared.front_told.FrontToldNumbers.{FrontToldNumbers}
 use Rattle.vbd_c.specs.declared.owed.OwedNumbers.{OwedNumbers}
 use Rattle.vbd_c.specs.declared.status.Status.{Status}
 use Rattle.vbd_c.specs.declared.status.Status.TheVariants as status
-use Rattle.vbd_c.specs.Status.{code_of}
 use Rattle.vbd_c.specs.FrontAsk.{numbers_of, path_of, text_of}
 use Rattle.vbd_c.specs.FrontTold.{numbers_told}
 use Rattle.vbd_c.specs.FrontMove.{answered, IsAnswered, status_of, submitted, submit_status, closed, close_status}
@@ -31,22 +30,6 @@ abbrev pub options_of : FrontOptions → Option Options
 options_of o =
     if nat_lt 4 o.order then None
     else Some (record { abi = abi_of o.x86_32; order = o.order; persistent = 0; indirect = 0; start = o.start; read_only = false; sectors = 0 })
-
--- a handle gets a front where it had none, its options are in range and there is enough memory; else nothing changes
-abbrev pub MadeWith : Option Options → Option View → Option View → Status → Type 0
-MadeWith (Some config) before after status.Done = (before ≡ None) × (after ≡ Some (start_of config))
-MadeWith (Some config) before after status.NoMemory = (before ≡ None) × (after ≡ before)
-MadeWith None before after status.OutOfRange = (before ≡ None) × (after ≡ before)
-MadeWith config before after status.InUse = IsSome before × (after ≡ before)
-MadeWith config before after s = ⊥
-
-abbrev pub MadeAs : Option Options → Option View → Option View → ℕ → Type 0
-MadeAs config before after code = (s : Status) × (code ≡ code_of s) × MadeWith config before after s
-
--- whether there is a front
-abbrev pub found : Option View → Status
-found None = status.Empty
-found (Some v) = status.Done
 
 -- what is asked is written where there is a front
 abbrev pub asked : Option View → FrontAskNumbers → FrontAskNumbers

@@ -15,7 +15,7 @@ use Rattle.vbd_c.specs.declared.halt.HaltNumbers.{HaltNumbers}
 use Rattle.vbd_c.specs.declared.status.Status.{Status}
 use Rattle.vbd_c.specs.declared.status.Status.TheVariants as status
 use Rattle.vbd_c.specs.Status.{code_of}
-use Rattle.vbd_c.specs.View.{View, start_of}
+use Rattle.vbd_c.specs.View.{View}
 use Rattle.vbd_c.specs.Move.{ask_of, IsAnswered, heard, closed}
 use Rattle.vbd_c.specs.Ask.{numbers_of, path_of, text_of, words_of}
 use Rattle.vbd_c.specs.Answer.{mapping_for, answered_by, status_by}
@@ -27,17 +27,6 @@ abbrev pub options_of : BackOptions → Option Options
 options_of o =
     if nat_lt 960 o.indirect then None
     else Some (record { abi = X64; order = 0; persistent = 0; indirect = o.indirect; start = o.start; read_only = o.read_only; sectors = o.sectors })
-
--- a handle gets a back where it had none, its options are in range and there is enough memory; else nothing changes
-abbrev pub MadeWith : Option Options → Option View → Option View → Status → Type 0
-MadeWith (Some config) before after status.Done = (before ≡ None) × (after ≡ Some (start_of config))
-MadeWith (Some config) before after status.NoMemory = (before ≡ None) × (after ≡ before)
-MadeWith None before after status.OutOfRange = (before ≡ None) × (after ≡ before)
-MadeWith config before after status.InUse = IsSome before × (after ≡ before)
-MadeWith config before after s = ⊥
-
-abbrev pub MadeAs : Option Options → Option View → Option View → ℕ → Type 0
-MadeAs config before after code = (s : Status) × (code ≡ code_of s) × MadeWith config before after s
 
 -- it is the new back, or nothing changed: memory lacked, or the program hadn't taken what the last move told
 abbrev pub SuspendedAs : back.View → View → View → Status → Type 0
@@ -53,11 +42,6 @@ SuspendedWith start going (Some v) (Some after) s = SuspendedAs (back.renewed st
 
 abbrev pub SuspendedIn : (start : ℕ) (going : Bool) → Option View → Option View → ℕ → Type 0
 SuspendedIn start going before after code = (s : Status) × (code ≡ code_of s) × SuspendedWith start going before after s
-
--- whether there is a back
-abbrev pub found : Option View → Status
-found None = status.Empty
-found (Some v) = status.Done
 
 -- what is asked is written where there is a back
 abbrev pub asked : Option View → ℕ → AskNumbers → AskNumbers

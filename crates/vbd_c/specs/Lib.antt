@@ -7,6 +7,7 @@ pub mod Ask
 pub mod Answer
 pub mod Told
 pub mod Bytes
+pub mod Handle
 pub mod Held
 pub mod Owned
 pub mod FrontAsk

@@ -6,7 +6,9 @@ ghost use Rattle.vbd_c.specs.Status.{code_of};
 ghost use Rattle.vbd_c.specs.Move.{ask_of, Stays};
 ghost use Rattle.vbd_c.specs.Answer.{answer_of};
 ghost use Rattle.vbd_c.specs.Bytes.{copied, copied_count, IsNoText, sector_copied, is_sector_copied};
-ghost use Rattle.vbd_c.specs.Held.{found, asked, path_in, text_in, words_in, next_job_in, MadeAs, SuspendedIn};
+ghost use Rattle.vbd_c.specs.View.{start_of};
+ghost use Rattle.vbd_c.specs.Handle.{found, MadeAs};
+ghost use Rattle.vbd_c.specs.Held.{asked, path_in, text_in, words_in, next_job_in, SuspendedIn};
 ghost use Rattle.vbd_c.specs.Held.{AnsweredAs, answered_in, status_in, mapping_in, key_answer, watch_answer, sector_answer};
 ghost use Rattle.vbd_c.specs.Held.{told_in, told_numbers, heard_in, halt_in, halt_numbers, halt_key, closed_in, options_of};
 
@@ -25,7 +27,7 @@ use std::alloc::Global;
 /// `InUse`, or `NoMemory`: then nothing changes.
 #[unsafe(no_mangle)]
 pub extern "C" fn vbd_back_new(alloc: Global, back: &mut Handle, options: &BackOptions) -> u32
-    ensures { MadeAs (options_of options.now) back.old.place.held back.new.place.held result }
+    ensures { MadeAs start_of (options_of options.now) back.old.place.held back.new.place.held result }
 {
     back.make(alloc, options).code()
 }

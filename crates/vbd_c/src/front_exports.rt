@@ -1,11 +1,13 @@
 // What C calls of a front: `include/vbd_front.h` says of each call what it is for, and what its numbers mean.
 ghost use Rattle.std.specs.Prelude.{◌≡◌, None, IfSome, is_some};
+ghost use Rattle.vbd_front.specs.View.{start_of};
 ghost use Rattle.vbd_front.specs.Ask.{ask_of, StaysInMemory};
 ghost use Rattle.vbd_c.specs.Status.{code_of};
 ghost use Rattle.vbd_c.specs.Answer.{front_answer_of};
 ghost use Rattle.vbd_c.specs.Submission.{submission_of};
 ghost use Rattle.vbd_c.specs.Bytes.{copied, copied_count, IsNoText};
-ghost use Rattle.vbd_c.specs.FrontHeld.{found, asked, path_in, text_in, MadeAs, options_of, closed_in, close_status_in};
+ghost use Rattle.vbd_c.specs.Handle.{found, MadeAs};
+ghost use Rattle.vbd_c.specs.FrontHeld.{asked, path_in, text_in, options_of, closed_in, close_status_in};
 ghost use Rattle.vbd_c.specs.FrontHeld.{AnsweredAs, answered_in, status_in, key_answer, watch_answer};
 ghost use Rattle.vbd_c.specs.FrontHeld.{submitted_in, submit_status_in, number_in, told_in, told_numbers, heard_in};
 ghost use Rattle.vbd_c.specs.FrontHeld.{owed_in, suspended_in};
@@ -30,7 +32,7 @@ pub extern "C" fn vbd_front_new(
     front: &mut FrontHandle,
     options: &FrontOptions,
 ) -> u32
-    ensures { MadeAs (options_of options.now) front.old.place.held front.new.place.held result }
+    ensures { MadeAs start_of (options_of options.now) front.old.place.held front.new.place.held result }
 {
     front.make(alloc, options).code()
 }

@@ -1,6 +1,8 @@
 // What C holds of a back.
 ghost use Rattle.std.specs.Prelude.{◌≡◌, Some, None, is_some, MatchOption};
-ghost use Rattle.vbd_c.specs.Held.{MadeWith, options_of, answered_in, status_in, AnsweredAs};
+ghost use Rattle.vbd_c.specs.View.{start_of};
+ghost use Rattle.vbd_c.specs.Handle.{MadeWith};
+ghost use Rattle.vbd_c.specs.Held.{options_of, answered_in, status_in, AnsweredAs};
 
 use crate::held::HeldBack;
 use crate::options::BackOptions;
@@ -46,7 +48,7 @@ impl Handle {
     /// Makes a back in it. `InUse` where it has one, `OutOfRange` where an option is, and `NoMemory` where there is not
     /// enough memory: then nothing changes.
     pub fn make(&mut self, alloc: Global, options: &BackOptions) -> Status
-        ensures { MadeWith (options_of options.now) self.old.place.held self.new.place.held result }
+        ensures { MadeWith start_of (options_of options.now) self.old.place.held self.new.place.held result }
     {
         if self.live {
             return Status::InUse;
