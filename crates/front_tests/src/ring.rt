@@ -5,6 +5,7 @@ mod data;
 mod frameless;
 mod guest;
 mod indirect;
+mod kept;
 mod long;
 mod reads;
 mod script;

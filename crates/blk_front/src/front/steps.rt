@@ -7,7 +7,7 @@ ghost use Rattle.blk_front.specs.View.{next_request};
 ghost use Rattle.blk_front.specs.Ask.{IsAnswer};
 ghost use Rattle.blk_front.specs.Keep.{step_as_at, loop_ask_as, loop_step_as, begun_as, named_or_entered, first_place, grants, next_place, data_next, page_next, with_grant, granted_as, ended_now, response_step_as, ring_ended_as, kept_stage, kept_read, kept_ended};
 ghost use Rattle.blk_front.specs.Sound.{AreAscending};
-ghost use Rattle.blk_front.specs.Step.{step_at, loop_word, looked, broken, found_at, issued, taken, response_step, end_step, exchanged, ring_read, at, finished, pushed, data_step, left_step, IsTaking, IsRevoking, IsEndingStage};
+ghost use Rattle.blk_front.specs.Step.{step_at, loop_word, looked, broken, found_at, issued, taken, response_step, end_step, exchanged, ring_read, at, entered, finished, pushed, data_step, left_step, IsTaking, IsRevoking, IsEndingStage};
 ghost use Rattle.blk_front.specs.Request.{IsShaped, is_indirect};
 ghost use Rattle.blk_front.specs.Inside.{held};
 ghost use Rattle.blk_front.specs.declared.told.Told.TheVariants.{Sector};
@@ -81,10 +81,18 @@ impl Front {
             Transfer::Write(_) | Transfer::Barrier(_) => self.stage = FrontStage::Data(1),
             Transfer::Read if is_indirect(r.count) => self.stage = FrontStage::Pages(1),
             Transfer::Read => self.issued_read(),
-            Transfer::Flush | Transfer::Discard(_) => {
-                self.ring.entry = request_words(self.abi, &wire(r));
-                self.stage = FrontStage::Slot(1);
-            }
+            Transfer::Flush | Transfer::Discard(_) => self.make_entry(1),
+        }
+    }
+
+    // Its entry is in hand, and this word of it is written next.
+    fn make_entry(&mut self, word: u32)
+        requires { word < 3 }
+        ensures { IfSome (next_request self.old) (λ r. self.new ≡ entered self.old r (stage.Slot word)) }
+    {
+        if let Some(r) = self.next_request() {
+            self.ring.entry = request_words(self.abi, &wire(r));
+            self.stage = FrontStage::Slot(word);
         }
     }
 
@@ -98,10 +106,7 @@ impl Front {
         };
         match self.first_place(r) {
             Some(place) => self.stage = FrontStage::GrantFence(place),
-            None => {
-                self.ring.entry = request_words(self.abi, &wire(r));
-                self.stage = FrontStage::Slot(1);
-            }
+            None => self.make_entry(1),
         }
     }
 
@@ -280,15 +285,12 @@ impl Front {
         requires { IfSome place (λ place. place < 962) }
         ensures { IfSome (next_request self.old) (λ r. self.new ≡ grants self.old r place) }
     {
-        let Some(r) = self.next_request() else {
+        let Some(_) = self.next_request() else {
             return;
         };
         match place {
             Some(place) => self.stage = FrontStage::GrantFrame(place),
-            None => {
-                self.ring.entry = request_words(self.abi, &wire(r));
-                self.stage = FrontStage::Slot(0);
-            }
+            None => self.make_entry(0),
         }
     }
 

@@ -21,6 +21,7 @@ const OFFERS: Offers = Offers {
     flush: false,
     discard: false,
     indirect: 256,
+    persistent: false,
 };
 
 #[test]

@@ -127,6 +127,7 @@ pub const NOTHING: Offers = Offers {
     flush: false,
     discard: false,
     indirect: 0,
+    persistent: false,
 };
 
 impl Data {
