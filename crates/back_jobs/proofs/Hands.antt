@@ -84,7 +84,7 @@ hand_next : (t : Work) (m : Mapping) → hand_of (next_sector t m) ≡ m ∷ []
 hand_next t m = either_hand_of (t.within == last_of t.rest) (record t { stage = stage.Unmap m }) (record t { within = t.within + 1; stage = sector_stage t.writes m }) (m ∷ []) refl (hand_sector t.writes m)
 
 -- after a segment no mapping is in hand
-hand_of_segment : (t : Work) (rest : List Segment) → hand_of (next_segment t rest) ≡ []
+pub hand_of_segment : (t : Work) (rest : List Segment) → hand_of (next_segment t rest) ≡ []
 hand_of_segment t [] = refl
 hand_of_segment t (s ∷ rest) = refl
 

@@ -24,3 +24,4 @@ pub mod PageSteps
 pub mod JobWork
 pub mod PageWork
 pub mod PageRefused
+mod Tidy

@@ -1,4 +1,4 @@
--- What may happen to a back, in any order: what its public calls do to it (`blk_back: Back`), with any answers that its asks allow.
+-- What may happen to a back, in any order: what its public calls do to it (`blk_back: Back`), with any answers that its asks allow, where it is attached with no mapping to keep.
 use Rattle.std.specs.Prelude.{◌≡◌, ℕ, ◌^◌, ◌<◌, List, [], ◌∷◌, None}
 use Rattle.blk_base.specs.declared.ask.BackAnswer.{BackAnswer}
 use Rattle.blk_base.specs.declared.ask.BackAnswer.TheVariants as answer

@@ -7,3 +7,4 @@ pub mod Ledger
 pub mod Life
 pub mod Laws
 pub mod JobSteps
+pub mod Kept

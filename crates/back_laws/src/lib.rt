@@ -1,7 +1,8 @@
 //! Laws of the back's end of a ring and its jobs alone (`io/ring.h`, `io/blkif.h`), over any answers:
 //! `blk_back`'s machine, told whatever its asks allow, by a hostile guest, a failing disk or another
 //! machine below it. They are for authors of other backends: nothing of the machine between both
-//! domains is in them.
+//! domains is in them. Where nothing else is said they are of a back that is attached with no mapping to
+//! keep.
 #![tactic(auto)]
 
 ghost use Rattle.std.specs.Prelude.{ℕ, ℤ, ◌≡◌, ◌+◌, ◌*◌, ◌^◌, ◌<◌, ◌≤◌, Bool, false, true, List, [], ◌∷◌, ◌++◌, length, not, position, Some, slice_set, slice_index_or};
@@ -40,6 +41,7 @@ ghost use Rattle.report_rules.specs.Work.{are_read, work_tasks};
 ghost use Rattle.report_rules.specs.declared.step.Step.{Step};
 ghost use Rattle.report_rules.specs.declared.step.Step.TheVariants as steps;
 ghost use Rattle.back_laws.specs.Run.{BackRun};
+ghost use Rattle.back_laws.specs.Kept.{KeepsFew, LosesNone, LeavesNone};
 ghost use Rattle.back_laws.specs.Laws.{LivesSo, StaysHalted, NoJobGoesOn, HoldsFewJobs, NamesWhatItHolds, JobsNameWhatIsHeld, HoldsWhatItWasGiven, EachAnswerLowers};
 
 /// All that the back itself asks is one life: it maps its ring's pages and binds its port, then does one
@@ -88,6 +90,15 @@ pub fn the_asks_go_through_what_is_held()
     ensures back { NamesWhatItHolds }
     ensures jobs { JobsNameWhatIsHeld }
     ensures held { HoldsWhatItWasGiven }
+{}
+
+/// A back keeps as many mappings as its terms allow, at most 1000, and loses none: with those that are kept,
+/// it holds what was given to it and what it hasn't unmapped, whatever it and its jobs are answered and
+/// its negotiation calls for. One that has halted, and is to do nothing more, holds and keeps none.
+pub fn a_back_that_keeps_mappings_loses_none()
+    ensures few { KeepsFew }
+    ensures loses_none { LosesNone }
+    ensures leaves_none { LeavesNone }
 {}
 
 /// Each answer to a job's ask lowers what is left to it, whatever the disk, the grants and the words

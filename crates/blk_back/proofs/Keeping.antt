@@ -68,7 +68,7 @@ either_twice true x y z l p q = p
 either_twice false x y z l p q = q
 
 -- to give up the next mapping loses none
-abort_entire : (v : View) → IsPermutation (connected v) (all_hands_of (abort_keeping v))
+pub abort_entire : (v : View) → IsPermutation (connected v) (all_hands_of (abort_keeping v))
 abort_entire v =
     let rest : List Mapping = all_hands (after_given v.jobs) in
     subst (λ (l : List Mapping). IsPermutation (connected v) l) (sym (given_apart (first_given v.jobs) rest v.pages))

@@ -73,7 +73,7 @@ abort_sound v jobs s o rest is next pages sound =
 told_nothing : (h : HeldJobs) (number : ℕ) (a : BackAnswer) → HasNothing h → HasNothing (complete_keeping h number a)
 told_nothing h number a none = subst HasNothing (sym (told_none h number a none.0)) none
 
-told_cleared : (s : BackStage) (h : HeldJobs) (number : ℕ) (a : BackAnswer) → IsCleared s h → IsCleared s (complete_keeping h number a)
+pub told_cleared : (s : BackStage) (h : HeldJobs) (number : ℕ) (a : BackAnswer) → IsCleared s h → IsCleared s (complete_keeping h number a)
 told_cleared stage.InitWait h number a none = told_nothing h number a none
 told_cleared stage.MapRing h number a none = told_nothing h number a none
 told_cleared stage.Bind h number a none = told_nothing h number a none

@@ -1,0 +1,5 @@
+use Rattle.back_laws.proofs.Tidy.{keeps_few, loses_none, leaves_none}
+use Rattle.back_laws.proofs.a_back_that_keeps_mappings_loses_none.Goals as goal
+
+pub returns : goal.returns
+returns c = record { few = keeps_few; loses_none = loses_none; leaves_none = leaves_none }
