@@ -5,7 +5,6 @@
 
 #define BACK "/local/domain/0/backend/vbd/1/51712"
 #define FRONT "/local/domain/1/device/vbd/51712"
-
 static int wrong;
 #define HOLDS(what) ((what) ? (void)0 : (void)(wrong++, printf("front_calls: line %d: %s doesn't hold\n", __LINE__, #what)))
 
@@ -41,12 +40,11 @@ static void a_handle_without_a_front(void) {
     struct vbd_front_ask ask = {.kind = 99};
     struct vbd_front_told told = {.kind = 99};
     struct vbd_front_options wide = {5, 0, false};
-    struct vbd_owed owed = {99, 99};
     uint8_t bytes[80];
     uint32_t id = 99;
     HOLDS(vbd_front_ask(&front, &ask) == VBD_EMPTY && ask.kind == 99 && answered(VBD_OK, 0) == VBD_EMPTY && key("4") == VBD_EMPTY);
     HOLDS(vbd_front_path(&front, bytes, 80) == 0 && vbd_front_text(&front, bytes, 80) == 0 && !vbd_front_told(&front, &told) && told.kind == 99);
-    HOLDS(submitted(VBD_OP_FLUSH, 0, 0, &id) == VBD_EMPTY && id == 99 && vbd_front_owed(&front, &owed) == VBD_EMPTY && owed.requests == 99);
+    HOLDS(submitted(VBD_OP_FLUSH, 0, 0, &id) == VBD_EMPTY && id == 99 && unfinished() == 99);
     HOLDS(vbd_front_close(&front) == VBD_EMPTY && vbd_front_suspend(&front) == VBD_EMPTY && vbd_front_new(&front, &wide) == VBD_OUT_OF_RANGE);
     vbd_front_free(&front);
 }
@@ -61,8 +59,7 @@ static void it_waits_for_its_back(void) {
     HOLDS(answered(VBD_EVENT, 0) == VBD_NOT_ALLOWED && answered(VBD_WORD, 7) == VBD_NOT_ALLOWED && answered(77, 0) == VBD_NOT_ALLOWED);
     HOLDS(key("1") == VBD_NOT_ALLOWED && vbd_front_watched(&front, no_text, 2) == VBD_OUT_OF_RANGE && asked().kind == VBD_WATCH);
     HOLDS(submitted(VBD_OP_READ, 1, 0, &id) == VBD_NOT_READY && id == 99 && submitted(VBD_OP_READ, 0, 0, &id) == VBD_OUT_OF_RANGE);
-    HOLDS(submitted(4, 1, 0, &id) == VBD_OUT_OF_RANGE && unfinished() == 0 && asked().kind == VBD_WATCH);
-    HOLDS(answered(VBD_OK, 0) == VBD_DONE);
+    HOLDS(submitted(4, 1, 0, &id) == VBD_OUT_OF_RANGE && unfinished() == 0 && asked().kind == VBD_WATCH && answered(VBD_OK, 0) == VBD_DONE);
     if (asked().kind == VBD_WAIT) HOLDS(vbd_front_watched(&front, (const uint8_t *)BACK "/state", strlen(BACK "/state")) == VBD_DONE);
     HOLDS(asked().kind == VBD_GET_KEY && path_is(BACK "/state"));
     HOLDS(vbd_front_key(&front, (uint8_t *)long_text, 65) == VBD_OUT_OF_RANGE && key("2") == VBD_DONE);

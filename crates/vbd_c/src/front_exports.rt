@@ -181,6 +181,7 @@ pub extern "C" fn vbd_front_submit(
     ensures held { front.new.place.held ≡ submitted_in front.old.place.held (submission_of submission.now) }
     ensures id { id.new ≡ number_in front.old.place.held (submission_of submission.now) id.old }
     ensures status { result ≡ code_of (submit_status_in front.old.place.held (submission_of submission.now)) }
+    ensures refused { ¬ (result ≡ 0) → (front.new.place.held ≡ front.old.place.held) × (id.new ≡ id.old) }
 {
     let Some(mut held) = front.take(alloc) else {
         return Status::Empty.code();
