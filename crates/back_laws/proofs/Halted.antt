@@ -22,7 +22,7 @@ use Rattle.back_laws.proofs.Lives.{KnowsAt}
 use Rattle.back_laws.proofs.Always.{always}
 
 -- the stages after a halt
-abbrev is_over : BackStage → Bool
+abbrev pub is_over : BackStage → Bool
 is_over (stage.Abort m) = true
 is_over stage.UnmapRing = true
 is_over stage.ClosePort = true
@@ -30,23 +30,23 @@ is_over stage.UnmapUnbound = true
 is_over stage.Halted = true
 is_over s = false
 
-record IsOver (halted : Option Halt) (v : View) : Type 0 where
-  over : is_over v.stage ≡ true
-  same : v.halted ≡ halted
+pub record IsOver (halted : Option Halt) (v : View) : Type 0 where
+  pub over : is_over v.stage ≡ true
+  pub same : v.halted ≡ halted
 
-giving_over : (m : Option Mapping) → is_over (unmapping_next m) ≡ true
+pub giving_over : (m : Option Mapping) → is_over (unmapping_next m) ≡ true
 giving_over None = refl
 giving_over (Some m) = refl
 
-unbound_over : (pages : List Mapping) → is_over (unbound pages) ≡ true
+pub unbound_over : (pages : List Mapping) → is_over (unbound pages) ≡ true
 unbound_over [] = refl
 unbound_over (page ∷ pages) = refl
 
-bound_over : (pages : List Mapping) → is_over (bound pages) ≡ true
+pub bound_over : (pages : List Mapping) → is_over (bound pages) ≡ true
 bound_over [] = refl
 bound_over (page ∷ pages) = refl
 
-step_over : (s : BackStage) (v : View) (given : BackAnswer) (halted : Option Halt) → v.stage ≡ s → is_over s ≡ true → v.halted ≡ halted → IsOver halted (step_at s v given)
+pub step_over : (s : BackStage) (v : View) (given : BackAnswer) (halted : Option Halt) → v.stage ≡ s → is_over s ≡ true → v.halted ≡ halted → IsOver halted (step_at s v given)
 step_over (stage.Abort m) v given halted e over same = record { over = giving_over (first_mapping v.jobs.works); same = same }
 step_over stage.UnmapRing v given halted e over same = record { over = bound_over (other_pages v.pages); same = same }
 step_over stage.ClosePort v given halted e over same = record { over = refl; same = same }
@@ -78,7 +78,7 @@ over_after : (hs : List Happening) (v : View) (halted : Option Halt) → IsOver 
 over_after [] v halted o = o.same
 over_after (h ∷ hs) v halted o = over_after hs (happened h v) halted (happened_over h v halted o)
 
-none_halted : (halted : Option Halt) → halted ≡ None → is_some halted ≡ true → ⊥
+pub none_halted : (halted : Option Halt) → halted ≡ None → is_some halted ≡ true → ⊥
 none_halted halted none some = let no = ap (λ (o : Option Halt). is_some o) none in cc
 
 halted_over : (s : BackStage) (start : ℕ) (trace : List JobAsked) (own : List Asked) (calls : List Halt) (v : View) → KnowsAt s start trace own calls v → is_some v.halted ≡ true → is_over s ≡ true

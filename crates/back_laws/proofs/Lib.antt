@@ -25,3 +25,4 @@ pub mod JobWork
 pub mod PageWork
 pub mod PageRefused
 mod Tidy
+mod KeptHalted

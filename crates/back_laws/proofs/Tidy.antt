@@ -138,7 +138,7 @@ halts_tidy_at stage.Loop why v none t = abort_tidy_at (first_given v.jobs) (reco
 halts_tidy_at s why v none t = t
 
 -- of terms that it takes
-left_of : (a b : Bool) → (a && b) ≡ true → a ≡ true
+pub left_of : (a b : Bool) → (a && b) ≡ true → a ≡ true
 left_of true b h = refl
 left_of false b h = absurd (cc)
 

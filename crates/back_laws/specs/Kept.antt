@@ -1,5 +1,5 @@
 -- A back whose jobs keep mappings for later requests (`feature-persistent` of `io/blkif.h`): what may happen to it, in any order, with any answers that its asks allow; and what is true of every run.
-use Rattle.std.specs.Prelude.{◌≡◌, ℕ, ◌≤◌, List, [], ◌∷◌, None, IsPermutation, length}
+use Rattle.std.specs.Prelude.{◌≡◌, ℕ, ◌≤◌, List, [], ◌∷◌, None, is_some, true, IsPermutation, length}
 use Rattle.blk_base.specs.declared.ask.BackAnswer.{BackAnswer}
 use Rattle.blk_base.specs.declared.halt.Halt.{Halt}
 use Rattle.ring_words.specs.Shape.{Shape}
@@ -73,3 +73,10 @@ LosesNone = (r : KeepingRun) → (all_hands_of (begins r) ≡ []) × ((h : KeptH
 -- a back that has halted, and is to do nothing more, holds and keeps none
 abbrev pub LeavesNone : Type 0
 LeavesNone = (r : KeepingRun) → (now r).stage ≡ stage.Halted → all_hands_of (now r) ≡ []
+
+-- a back that has halted stays so, for the same cause, and its jobs ask for nothing
+abbrev pub StaysHalted : Type 0
+StaysHalted = (r : KeepingRun) (more : List KeptHappening) → is_some (now r).halted ≡ true → AllMayHappen more (now r) → (after more (now r)).halted ≡ (now r).halted
+
+abbrev pub NoJobGoesOn : Type 0
+NoJobGoesOn = (r : KeepingRun) (number : ℕ) (given : BackAnswer) → is_some (now r).halted ≡ true → IsJobAnswer (job_ask_keeping (now r) number) given → ⊥

@@ -41,6 +41,7 @@ ghost use Rattle.report_rules.specs.Work.{are_read, work_tasks};
 ghost use Rattle.report_rules.specs.declared.step.Step.{Step};
 ghost use Rattle.report_rules.specs.declared.step.Step.TheVariants as steps;
 ghost use Rattle.back_laws.specs.Run.{BackRun};
+ghost use Rattle.back_laws.specs.Kept as kept;
 ghost use Rattle.back_laws.specs.Kept.{KeepsFew, LosesNone, LeavesNone};
 ghost use Rattle.back_laws.specs.Laws.{LivesSo, StaysHalted, NoJobGoesOn, HoldsFewJobs, NamesWhatItHolds, JobsNameWhatIsHeld, HoldsWhatItWasGiven, EachAnswerLowers};
 
@@ -94,10 +95,13 @@ pub fn the_asks_go_through_what_is_held()
 
 /// A back keeps as many mappings as its terms allow, at most 1000, and loses none: with those that are kept,
 /// it holds what was given to it and what it hasn't unmapped, whatever it and its jobs are answered and
-/// its negotiation calls for. One that has halted, and is to do nothing more, holds and keeps none.
+/// its negotiation calls for. One that has halted stays so, for the cause that it had, and no job of it asks
+/// for anything; once it is to do nothing more it holds and keeps none.
 pub fn a_back_that_keeps_mappings_loses_none()
     ensures few { KeepsFew }
     ensures loses_none { LosesNone }
+    ensures stays { kept.StaysHalted }
+    ensures jobs { kept.NoJobGoesOn }
     ensures leaves_none { LeavesNone }
 {}
 
