@@ -25,11 +25,10 @@ use Rattle.blk_front.specs.Pool.{taking}
 use Rattle.blk_front.specs.Request.{has_data, words_in, is_write, named_of, frames_for}
 use Rattle.blk_front.specs.State.{may_enter, in_state, enters, is_open}
 use Rattle.blk_front.specs.Suspend.{suspended, resumed}
-use Rattle.blk_front.specs.Submit.{submit_of, submit_one, submit_with, wish_of, most_segments, frames_taken, unfinished, is_ready}
+use Rattle.blk_front.specs.Submit.{submit_of, submit_one, submit_with, wish_of, most_segments, frames_taken, unfinished, is_ready, is_idle}
 use Rattle.blk_front.specs.View.{View, next_request}
 use Rattle.blk_front.specs.Step.{at, broken, looked, begun, loop_step, entered, granted, response_at, issued, answered, freed, revokes, is_mapped, ended, finished, revoked, sector_told, data_step, left_step, ring_left, step_at, step_of}
 use Rattle.blk_front.specs.Ask.{ask_of, IsAnswer}
-use Rattle.blk_front.specs.Submit.{is_idle}
 use Rattle.blk_front.specs.Keep.{ask_as, step_as, is_idle_as}
 use Rattle.blk_front.proofs.Plain.{plain_ask, plain_step, plain_idle}
 use Rattle.xenbus_state.specs.declared.front.FrontNews.{FrontNews}
