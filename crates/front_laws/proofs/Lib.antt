@@ -21,3 +21,12 @@ pub mod Refused
 pub mod Issued
 pub mod Lowers
 pub mod Falls
+pub mod KeptFrames
+pub mod KeptAsks
+pub mod KeptStages
+pub mod KeptQuiet
+pub mod KeptSteps
+pub mod KeptTurns
+pub mod KeptRuns
+pub mod KeptRing
+pub mod KeptLaw

@@ -24,13 +24,13 @@ use Rattle.front_laws.proofs.Simple.{next_stands}
 use Rattle.front_laws.proofs.Known.{core_of, share_of, hand_of, IsFine, Agree, IsSized, IsIssuing, IsWriting, IsReading, IsEnding, IsTelling, Known}
 
 -- an element before others that are added
-slice_get-append : {X : Type 0} (xs ys : List X) (i : ℕ) (x : X) → slice_get xs i ≡ Some x → slice_get (xs ++ ys) i ≡ Some x
+pub slice_get-append : {X : Type 0} (xs ys : List X) (i : ℕ) (x : X) → slice_get xs i ≡ Some x → slice_get (xs ++ ys) i ≡ Some x
 slice_get-append [] ys i x e = absurd (none-some x e)
 slice_get-append (z ∷ xs) ys zero x e = e
 slice_get-append (z ∷ xs) ys (suc i) x e = slice_get-append xs ys i x e
 
 -- so many frames of the pool are taken
-record AreTaken (n : ℕ) (before : List ℕ) (taken : List ℕ × List Bool) : Type 0 where
+pub record AreTaken (n : ℕ) (before : List ℕ) (taken : List ℕ × List Bool) : Type 0 where
   pub frames : All IsPooled taken.0
   pub long : length taken.0 ≡ length before + n
   pub size : length taken.1 ≡ 1000
@@ -42,7 +42,7 @@ taken_next n pool frames lt = let yes : nat_lt (position_or_len not pool) (lengt
 taken_none : (n : ℕ) (pool : List Bool) (frames : List ℕ) → length pool ≤ position_or_len not pool → taking (suc n) pool frames ≡ None
 taken_none n pool frames le = let no : nat_lt (position_or_len not pool) (length pool) ≡ false = grind (arith, nat_tests) in rw no refl
 
-taking_more : (n : ℕ) (pool : List Bool) (frames : List ℕ) (taken : List ℕ × List Bool) → length pool ≡ 1000 → All IsPooled frames → taking n pool frames ≡ Some taken → AreTaken n frames taken
+pub taking_more : (n : ℕ) (pool : List Bool) (frames : List ℕ) (taken : List ℕ × List Bool) → length pool ≡ 1000 → All IsPooled frames → taking n pool frames ≡ Some taken → AreTaken n frames taken
 taking_more zero pool frames taken size all e = subst (AreTaken 0 frames) (same_Some (frames, pool) taken e) (record { frames = all; long = omega arith; size = size })
 taking_more (suc n) pool frames taken size all e =
     let place : ℕ = position_or_len not pool in

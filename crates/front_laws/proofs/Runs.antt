@@ -34,7 +34,9 @@ nothing_new [] = refl
 nothing_new (r ∷ l) = nothing_new l
 
 -- a submission is refused, and changes nothing; or it is accepted
-submit_cases : (P : View → Type 0) (v : View) (submission : Submission) → P v → (is_ready v.stage ≡ true → (wish : Wish) (taken : List ℕ × List Bool) → taking (frames_taken wish.count) v.pool [] ≡ Some taken → P (accepted v wish taken)) → P (submit_of v submission).1
+pub submit_cases : (P : View → Type 0) (v : View) (submission : Submission) → P v
+    → (is_ready v.stage ≡ true → (wish : Wish) → wish_of v.offers submission ≡ Some wish → (taken : List ℕ × List Bool) → taking (frames_taken wish.count) v.pool [] ≡ Some taken → P (accepted v wish taken))
+    → P (submit_of v submission).1
 submit_cases P v submission same more =
     either (v.last == 4294967295) (Err refusal.Spent, v) unless_closing same
     (either v.closing (Err refusal.Closing, v) unless_unready same (by_ready (not (is_ready v.stage)) refl))
@@ -49,24 +51,24 @@ submit_cases P v submission same more =
     either true x y p q = p
     either false x y p q = q
 
-    by_frames : is_ready v.stage ≡ true → (wish : Wish) (o : Option (List ℕ × List Bool)) → taking (frames_taken wish.count) v.pool [] ≡ o → P (submit_with v wish o).1
-    by_frames ready wish None e = same
-    by_frames ready wish (Some taken) e = more ready wish taken e
+    by_frames : is_ready v.stage ≡ true → (wish : Wish) → wish_of v.offers submission ≡ Some wish → (o : Option (List ℕ × List Bool)) → taking (frames_taken wish.count) v.pool [] ≡ o → P (submit_with v wish o).1
+    by_frames ready wish is None e = same
+    by_frames ready wish is (Some taken) e = more ready wish is taken e
 
-    by_wish : is_ready v.stage ≡ true → (wish : Option Wish) → P (submit_one v wish).1
-    by_wish ready None = same
-    by_wish ready (Some wish) =
+    by_wish : is_ready v.stage ≡ true → (wish : Option Wish) → wish_of v.offers submission ≡ wish → P (submit_one v wish).1
+    by_wish ready None is = same
+    by_wish ready (Some wish) is =
         let frames = taking (frames_taken wish.count) v.pool [] in
         let unless_full = if nat_le (entries_of v.shape.order) (unfinished v) then (Err refusal.Full, v) else submit_with v wish frames in
         let unless_long = if nat_lt (most_segments v.offers wish.transfer) (frames_for wish.count) then (Err refusal.Long, v) else unless_full in
         either (is_write wish.transfer && v.offers.read_only) (Err refusal.ReadOnly, v) (if nat_lt v.offers.sectors (wish.sector + named_of wish.transfer wish.count) then (Err refusal.Range, v) else unless_long) same
         (either (nat_lt v.offers.sectors (wish.sector + named_of wish.transfer wish.count)) (Err refusal.Range, v) unless_long same
         (either (nat_lt (most_segments v.offers wish.transfer) (frames_for wish.count)) (Err refusal.Long, v) unless_full same
-        (either (nat_le (entries_of v.shape.order) (unfinished v)) (Err refusal.Full, v) (submit_with v wish frames) same (by_frames ready wish frames refl))))
+        (either (nat_le (entries_of v.shape.order) (unfinished v)) (Err refusal.Full, v) (submit_with v wish frames) same (by_frames ready wish is frames refl))))
 
     by_ready : (b : Bool) → not (is_ready v.stage) ≡ b → P (if b then (Err refusal.NotReady, v) else submit_one v (wish_of v.offers submission)).1
     by_ready true e = same
-    by_ready false e = by_wish (was (is_ready v.stage) e) (wish_of v.offers submission)
+    by_ready false e = by_wish (was (is_ready v.stage) e) (wish_of v.offers submission) refl
       where
         was : (b : Bool) → not b ≡ false → b ≡ true
         was true e = refl
@@ -101,7 +103,7 @@ module _ (Rule : Sight → Line → Type 0) (kept : IsKept Rule) where
   obeys_submit s v submission known =
       submit_cases (λ (x : View). Obeys s (map Submitted (drop (length v.requests) x.requests)) x) v submission
       (subst (λ (l : List Request). Obeys s (map Submitted l) v) (sym (nothing_new v.requests)) (tt, known))
-      (λ ready wish taken took.
+      (λ ready wish is taken took.
       let i = known_open v.stage s v (ready_open v.stage ready) known in
       subst (λ (l : List Request). Obeys s (map Submitted l) (accepted v wish taken)) (sym (drop-append_seam v.requests (request_with v wish taken.0 ∷ [])))
       ((kept.submits s (request_with v wish taken.0), tt), accepts_at s v i.agree i.sized wish taken took v.stage ready known))

@@ -7,3 +7,4 @@ pub mod Touches
 pub mod Samples
 pub mod Left
 pub mod Laws
+pub mod Kept

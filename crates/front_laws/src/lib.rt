@@ -4,11 +4,13 @@
 //! The laws are over every history of a front from its construction on: answers of any value to its
 //! asks, submissions, states that it enters and suspends, in any order. The trace of a history has a
 //! line for each ask with its answer and with what is told then, and each rule speaks of a line in
-//! sight of the lines before it.
+//! sight of the lines before it. One law is of a front that keeps its grants, the others are of one that
+//! keeps none.
 #![tactic(auto)]
 
 ghost use Rattle.front_laws.specs.Samples.{AreTellingsRefused, AreTouchesRefused, AreUntruthsRefused, AnswersTwiceRefused};
 ghost use Rattle.front_laws.specs.Left.{EachAnswerLowersWhatIsLeft};
+ghost use Rattle.front_laws.specs.Kept.{MakesEachOnce, KeepsWhatWasMade, UsesKeptGrants, PushesKeptGrants, EndsAsItLeaves, EndsTheRingFirst, LeavesNone, BeginsWithNone, KeepsNoneElsewhere};
 ghost use Rattle.front_laws.specs.Laws.{EachTellsWhereDue, EachTellsAsRead, EachTouchIsRight, EachAnswersOnce, HonestBreaksNothing, UnbrokenIsHonest, EachBringsItsAnswer};
 
 /// After each move exactly what is due is told: the answer that three words of a response bring, once
@@ -49,6 +51,25 @@ pub fn a_response_brings_its_answer()
 pub fn exactly_dishonest_answers_break()
     ensures honest { HonestBreaksNothing }
     ensures unbroken { UnbrokenIsHonest }
+{}
+
+/// A front that keeps its grants (`feature-persistent` of `io/blkif.h`) makes each once, whatever it is
+/// answered and its negotiation calls for. It writes the flags of a frame of its pool only where that
+/// frame's grant isn't kept, for reading and writing, and keeps it from then on: a grant is kept exactly
+/// where it was made since the last suspend and wasn't ended since. Where it writes a request's entry
+/// and where it pushes it, the grant of each of the request's frames is kept. It ends a grant only as it
+/// leaves, with no request left, after those of the ring, and only one that is kept. As it closes its
+/// port it keeps none, nor after a suspend, nor where one of both ends doesn't publish the key.
+pub fn a_front_that_keeps_grants_makes_each_once()
+    ensures made_once { MakesEachOnce }
+    ensures as_made { KeepsWhatWasMade }
+    ensures used { UsesKeptGrants }
+    ensures pushed { PushesKeptGrants }
+    ensures ends_leaving { EndsAsItLeaves }
+    ensures ring_first { EndsTheRingFirst }
+    ensures leaves_none { LeavesNone }
+    ensures begins_anew { BeginsWithNone }
+    ensures elsewhere { KeepsNoneElsewhere }
 {}
 
 /// Each answer lowers what is left to a sound front, whatever it shows, but for three kinds that raise
