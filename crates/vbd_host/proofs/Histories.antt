@@ -23,7 +23,7 @@ after_all : (hs ks : List Happening) (r : ring.View) → after (hs ++ ks) r ≡ 
 after_all [] ks r = refl
 after_all (h ∷ hs) ks r = after_all hs ks (happened h r)
 
-goes_on : (r s t : ring.View) → IsRingHistory r s → IsRingHistory s t → IsRingHistory r t
+pub goes_on : (r s t : ring.View) → IsRingHistory r s → IsRingHistory s t → IsRingHistory r t
 goes_on r s t h k =
     (h.0 ++ k.0, all_may h.0 k.0 r h.1 (subst (λ u. AllMayHappen k.0 u) h.2 k.1), k.2 ∙ (ap (λ u. after k.0 u) h.2 ∙ sym (after_all h.0 k.0 r)))
 
