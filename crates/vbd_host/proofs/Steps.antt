@@ -1,6 +1,6 @@
 -- The moves of the back and of its jobs, by their steps.
 use Rattle.std.proofs.Common.{◌≡◌, ℕ, Bool, true, false, ◌||◌, List, [], ◌∷◌, ◌++◌, refl, ap, ◌∙◌, subst}
-use Rattle.std.specs.Prelude.{Some}
+use Rattle.std.specs.Prelude.{Option, Some}
 use Rattle.blk_base.specs.declared.ask.BackAsk.{BackAsk}
 use Rattle.blk_base.specs.declared.ask.BackAnswer.{BackAnswer}
 use Rattle.back_jobs.specs.Work.{IsAnswer as IsJobAnswer}
@@ -9,33 +9,62 @@ use Rattle.vbd_back.specs.View.{View, heard}
 use Rattle.vbd_back.specs.Ask.{ask_of, IsAnswer as IsBackAnswer}
 use Rattle.vbd_back.specs.Step.{step_of, job_ask_of, job_step, next_job_of}
 use Rattle.vbd_host.specs.Answer.{IsLeft}
-use Rattle.vbd_host.specs.Moves.{MovesBack, MovesJob, HaveTurns}
+use Rattle.blk_back.specs.declared.told.BackTold.{BackTold}
+use Rattle.vbd_host.specs.Moves.{Does, Hears, Heard, TakesPart, MovesBack, MovesJob, HaveTurns}
 use Rattle.vbd_host.proofs.Waits.{left_waits}
 
+-- a host's part, by its calls
+took_part : {H : Type 0} (does : Does H) (hears : Hears H) (before told : Option BackTold) (ask real : BackAsk) (a : BackAnswer) (h i j k : H)
+    → Heard hears before h i → ask ≡ real → does i ask a j → Heard hears told j k → TakesPart does hears before real a told h k
+took_part does hears before told ask real a h i j k first is done last =
+    record { asked = i; answered = j; heard_first = first; done = subst (λ x. does i x a j) is done; heard_then = last }
+
 -- the back heard, asked, was answered and heard again
-pub back_moved : (v u s w : View) (ask : BackAsk) (a : BackAnswer) → u ≡ heard v → ask ≡ ask_of u → IsBackAnswer ask a × IsNarrow a → s ≡ step_of u a → w ≡ heard s → MovesBack true v w
-back_moved v u s w ask a hears asks allowed steps then =
-    let asked : ask ≡ ask_of (heard v) = asks ∙ ap ask_of hears in
-    (a, subst (λ x. IsBackAnswer x a) asked allowed.0, allowed.1, then ∙ ap heard (steps ∙ ap (λ x. step_of x a) hears))
+pub back_moved : {H : Type 0} (does : Does H) (hears : Hears H) (v u s w : View) (ask : BackAsk) (a : BackAnswer) (h i j k : H)
+    → u ≡ heard v → Heard hears v.ring.told h i → ask ≡ ask_of u → IsBackAnswer ask a × IsNarrow a → does i ask a j → s ≡ step_of u a
+    → w ≡ heard s → Heard hears s.ring.told j k → MovesBack does hears true v w h k
+back_moved does hears v u s w ask a h i j k takes first asks allowed done steps then last =
+    let asked : ask ≡ ask_of (heard v) = asks ∙ ap ask_of takes in
+    let stepped : s ≡ step_of (heard v) a = steps ∙ ap (λ x. step_of x a) takes in
+    record {
+      answer = a;
+      allowed = subst (λ x. IsBackAnswer x a) asked allowed.0;
+      narrow = allowed.1;
+      moved = then ∙ ap heard stepped;
+      host = took_part does hears v.ring.told (step_of (heard v) a).ring.told ask (ask_of (heard v)) a h i j k first asked done
+          (subst (λ (x : View). Heard hears x.ring.told j k) stepped last);
+    }
 
 -- or it heard, asked and was left
-pub back_rested : (v u : View) (ask : BackAsk) → u ≡ heard v → ask ≡ ask_of u → IsLeft ask → MovesBack false v u
-back_rested v u ask hears asks left = (left_waits (heard v) (subst (λ x. IsLeft x) (asks ∙ ap ask_of hears) left), hears)
+pub back_rested : {H : Type 0} (does : Does H) (hears : Hears H) (v u : View) (ask : BackAsk) (h k : H) → u ≡ heard v → ask ≡ ask_of u → IsLeft ask
+    → MovesBack does hears false v u h k
+back_rested does hears v u ask h k takes asks left = (left_waits (heard v) (subst (λ x. IsLeft x) (asks ∙ ap ask_of takes) left), takes)
 
-pub job_moved : (number : ℕ) (v u s w : View) (ask : BackAsk) (a : BackAnswer) → u ≡ heard v → ask ≡ job_ask_of u number → IsJobAnswer ask a
-    → s ≡ job_step u number a → w ≡ heard s → MovesJob number true v w
-job_moved number v u s w ask a hears asks allowed steps then =
-    (a, subst (λ x. IsJobAnswer x a) (asks ∙ ap (λ x. job_ask_of x number) hears) allowed, then ∙ ap heard (steps ∙ ap (λ x. job_step x number a) hears))
+pub job_moved : {H : Type 0} (does : Does H) (hears : Hears H) (number : ℕ) (v u s w : View) (ask : BackAsk) (a : BackAnswer) (h i j k : H)
+    → u ≡ heard v → Heard hears v.ring.told h i → ask ≡ job_ask_of u number → IsJobAnswer ask a → does i ask a j → s ≡ job_step u number a
+    → w ≡ heard s → Heard hears s.ring.told j k → MovesJob does hears number true v w h k
+job_moved does hears number v u s w ask a h i j k takes first asks allowed done steps then last =
+    let asked : ask ≡ job_ask_of (heard v) number = asks ∙ ap (λ x. job_ask_of x number) takes in
+    let stepped : s ≡ job_step (heard v) number a = steps ∙ ap (λ x. job_step x number a) takes in
+    record {
+      answer = a;
+      allowed = subst (λ x. IsJobAnswer x a) asked allowed;
+      moved = then ∙ ap heard stepped;
+      host = took_part does hears v.ring.told (job_step (heard v) number a).ring.told ask (job_ask_of (heard v) number) a h i j k first asked done
+          (subst (λ (x : View). Heard hears x.ring.told j k) stepped last);
+    }
 
 -- one more job had its turn
-pub turns_on : (numbers : List ℕ) (from mid next : ℕ) (had has moved : Bool) (v w z : View) → HaveTurns numbers from mid had has v w → next_job_of w mid ≡ Some next
-    → MovesJob next moved w z → HaveTurns (numbers ++ next ∷ []) from next had (has || moved) v z
-turns_on [] from mid next had has moved v w z t n m = (
+pub turns_on : {H : Type 0} (does : Does H) (hears : Hears H) (numbers : List ℕ) (from mid next : ℕ) (had has moved : Bool) (v w z : View) (h k l : H)
+    → HaveTurns does hears numbers from mid had has v w h k → next_job_of w mid ≡ Some next → MovesJob does hears next moved w z k l
+    → HaveTurns does hears (numbers ++ next ∷ []) from next had (has || moved) v z h l
+turns_on does hears [] from mid next had has moved v w z h k l t n m = (
   moved,
   z,
-  subst (λ u. next_job_of u from ≡ Some next) t.2 (subst (λ k. next_job_of w k ≡ Some next) t.0 n),
-  subst (λ u. MovesJob next moved u z) t.2 m,
-  (refl, ap (λ b. b || moved) t.1, refl),
+  l,
+  subst (λ u. next_job_of u from ≡ Some next) t.2 (subst (λ x. next_job_of w x ≡ Some next) t.0 n),
+  subst (λ x. MovesJob does hears next moved v z x l) t.3 (subst (λ u. MovesJob does hears next moved u z k l) t.2 m),
+  (refl, ap (λ b. b || moved) t.1, refl, refl),
 )
-turns_on (number ∷ numbers) from mid next had has moved v w z t n m =
-    (t.0, t.1, t.2, t.3, turns_on numbers number mid next (had || t.0) has moved t.1 w z t.4 n m)
+turns_on does hears (number ∷ numbers) from mid next had has moved v w z h k l t n m =
+    (t.0, t.1, t.2, t.3, t.4, turns_on does hears numbers number mid next (had || t.0) has moved t.1 w z t.2 k l t.5 n m)

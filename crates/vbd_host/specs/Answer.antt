@@ -1,10 +1,18 @@
 -- What a host gives, as the answer to an ask.
-use Rattle.std.specs.Prelude.{ℕ, ℤ, Result, Ok, Err}
+use Rattle.std.specs.Prelude.{ℕ, ℤ, List, Option, Some, None, Result, Ok, Err}
 use Rattle.blk_base.specs.declared.parts.Mode.{Mode}
 use Rattle.blk_base.specs.declared.ask.BackAsk.{BackAsk}
 use Rattle.blk_base.specs.declared.ask.BackAsk.TheVariants as ask
 use Rattle.blk_base.specs.declared.ask.BackAnswer.{BackAnswer}
-use Rattle.blk_base.specs.declared.ask.BackAnswer.TheVariants.{Done, Mapped, MapRefused, BindRefused, DiskFailed}
+use Rattle.blk_base.specs.declared.ask.BackAnswer.TheVariants.{Event, Watched, Done, Mapped, MapRefused, BindRefused, Sector, DiskFailed}
+use Rattle.vbd_host.specs.declared.woken.Woken.{Woken}
+use Rattle.vbd_host.specs.declared.woken.Woken.TheVariants as woken
+
+-- what wakes a back, if anything came
+abbrev pub woken_answer : Option Woken → Option BackAnswer
+woken_answer None = None
+woken_answer (Some woken.Event) = Some Event
+woken_answer (Some (woken.Watched path)) = Some (Watched path)
 
 -- the mapping of that number, of the reference and the mode that were asked for; or the status of the refusal
 abbrev pub map_answer : (gref : ℕ) → Mode → Result ℕ ℤ → BackAnswer
@@ -18,6 +26,11 @@ bind_answer (Err refused) = BindRefused
 abbrev pub disk_answer : {E : Type 0} → Result (Unit {0}) E → BackAnswer
 disk_answer (Ok done) = Done
 disk_answer (Err failed) = DiskFailed
+
+-- these words, where they were read
+abbrev pub sector_answer : {E : Type 0} → List ℕ → Result (Unit {0}) E → BackAnswer
+sector_answer words (Ok done) = Sector words
+sector_answer words (Err failed) = DiskFailed
 
 -- neither a word nor a frame to be mapped or unmapped is asked for
 abbrev pub IsNoMemory : BackAsk → Type 0

@@ -3,9 +3,10 @@ ghost use Rattle.std.specs.Prelude.{◌≡◌, IfSome, IfNone};
 ghost use Rattle.back_jobs.specs.Work.{IsAnswer as IsJobAnswer};
 ghost use Rattle.back_laws.specs.Happening.{IsNarrow};
 ghost use Rattle.vbd_back.specs.Ask.{IsAnswer as IsBackAnswer};
-ghost use Rattle.vbd_host.specs.Answer.{map_answer, bind_answer, disk_answer, IsLeft, IsLeftToJob, IsNoMemory, IsNoKey};
+ghost use Rattle.vbd_host.specs.Answer.{woken_answer, map_answer, bind_answer, disk_answer, sector_answer, IsLeft, IsLeftToJob, IsNoMemory, IsNoKey};
 
-use crate::host::{BackHost, BindRefused, DiskFailed, Woken};
+use crate::host::{BackHost, BindRefused, DiskFailed};
+use crate::woken::Woken;
 use blk_base::{BackAnswer, BackAsk, Lent, Mapping, Mode, Path, SectorWords, Text};
 
 /// Where lies what an answer lends: the words of a sector that was read, the path of a watch that fired,
@@ -60,7 +61,7 @@ pub fn disk_done(given: Result<(), DiskFailed>) -> BackAnswer<'static>
 
 // What the back waits for, where it came.
 fn woken<'a>(given: Option<Woken>, room: &'a mut Room) -> Option<BackAnswer<'a>>
-    ensures { IfSome result (λ answer. IsBackAnswer BackAsk.Wait answer × IsNarrow answer) }
+    ensures { result ≡ woken_answer given }
 {
     match given? {
         Woken::Event => Some(BackAnswer::Event),
@@ -86,7 +87,8 @@ fn key_read<'a>(given: Option<Text>, room: &'a mut Room) -> BackAnswer<'a>
 
 // A sector of the disk is read.
 fn sector_read<'a, H: BackHost>(sector: u64, host: &mut H, room: &'a mut Room) -> BackAnswer<'a>
-    ensures { IsJobAnswer (BackAsk.DiskRead sector) result }
+    ensures allowed { IsJobAnswer (BackAsk.DiskRead sector) result }
+    ensures done { H.does host.old (BackAsk.DiskRead sector) result host.new }
 {
     match host.read_sector(sector, &mut room.sector) {
         Ok(()) => BackAnswer::Sector(Lent::at(&room.sector)),
@@ -100,6 +102,7 @@ fn sector_read<'a, H: BackHost>(sector: u64, host: &mut H, room: &'a mut Room) -
 fn answer_memory<H: BackHost>(ask: &BackAsk, host: &mut H) -> Option<BackAnswer<'static>>
     ensures back { IfSome result (λ answer. IsBackAnswer ask.now answer × IsNarrow answer) }
     ensures job { IfSome result (λ answer. IsJobAnswer ask.now answer) }
+    ensures done { IfSome result (λ answer. H.does host.old ask.now answer host.new) }
     ensures none { IfNone result (IsNoMemory ask.now) }
 {
     match ask {
@@ -128,6 +131,7 @@ fn answer_keys<'a, H: BackHost>(
     room: &'a mut Room,
 ) -> Option<BackAnswer<'a>>
     ensures allowed { IfSome result (λ answer. IsBackAnswer ask.now answer × IsNarrow answer) }
+    ensures done { IfSome result (λ answer. H.does host.old ask.now answer host.new) }
     ensures none { IfNone result (IsNoKey ask.now) }
 {
     match ask {
@@ -152,6 +156,7 @@ pub(crate) fn answer_back<'a, H: BackHost>(
     room: &'a mut Room,
 ) -> Option<BackAnswer<'a>>
     ensures allowed { IfSome result (λ answer. IsBackAnswer ask.now answer × IsNarrow answer) }
+    ensures done { IfSome result (λ answer. H.does host.old ask.now answer host.new) }
     ensures none { IfNone result (IsLeft ask.now) }
 {
     match ask {
@@ -184,6 +189,7 @@ pub(crate) fn answer_job<'a, H: BackHost>(
     room: &'a mut Room,
 ) -> Option<BackAnswer<'a>>
     ensures allowed { IfSome result (λ answer. IsJobAnswer ask.now answer) }
+    ensures done { IfSome result (λ answer. H.does host.old ask.now answer host.new) }
     ensures none { IfNone result (IsLeftToJob ask.now) }
 {
     match ask {

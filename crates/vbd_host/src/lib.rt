@@ -7,8 +7,10 @@ mod answer;
 mod host;
 mod laws;
 mod moves;
+mod woken;
 
 pub use answer::{Room, bound, disk_done, mapped};
-pub use host::{BackHost, BindRefused, DiskFailed, Woken};
+pub use host::{BackHost, BindRefused, DiskFailed};
 pub use laws::a_hosts_moves_are_a_run;
 pub use moves::{move_back, move_job, round};
+pub use woken::Woken;

@@ -1,7 +1,7 @@
 // The moves of a back and its jobs.
 ghost use Rattle.std.specs.Prelude.{◌≡◌, None};
 ghost use Rattle.vbd_back.specs.View.{heard};
-ghost use Rattle.vbd_host.specs.Moves.{MovesBack, MovesJob, IsRound, IsHistory};
+ghost use Rattle.vbd_host.specs.Moves.{Heard, MovesBack, MovesJob, IsRound, IsHistory};
 
 use crate::answer::{Room, answer_back, answer_job};
 use crate::host::BackHost;
@@ -11,7 +11,8 @@ use vbd_back::Backend;
 // The host hears what was told, if anything was.
 #[inline(always)]
 fn hear<H: BackHost>(back: &mut Backend, host: &mut H)
-    ensures { back.new ≡ heard back.old }
+    ensures taken { back.new ≡ heard back.old }
+    ensures told { Heard H.hears back.old.ring.told host.old host.new }
 {
     if let Some(told) = back.take_told() {
         host.told(told);
@@ -22,7 +23,7 @@ fn hear<H: BackHost>(back: &mut Backend, host: &mut H)
 /// exactly where it waits and nothing came for it; then nothing changed. What was told before and not taken
 /// the host hears first.
 pub fn move_back<H: BackHost>(back: &mut Backend, host: &mut H, room: &mut Room) -> bool
-    ensures moves { MovesBack result back.old back.new }
+    ensures moves { MovesBack H.does H.hears result back.old back.new host.old host.new }
     ensures history { IsHistory back.old back.new }
 {
     hear(back, host);
@@ -38,7 +39,7 @@ pub fn move_back<H: BackHost>(back: &mut Backend, host: &mut H, room: &mut Room)
 /// One move of the job of the `number`-th request that was fetched in this epoch, likewise. Whether it moved:
 /// `false` exactly where it waits, or isn't held, or the back has halted.
 pub fn move_job<H: BackHost>(back: &mut Backend, number: u64, host: &mut H, room: &mut Room) -> bool
-    ensures moves { MovesJob number result back.old back.new }
+    ensures moves { MovesJob H.does H.hears number result back.old back.new host.old host.new }
     ensures history { IsHistory back.old back.new }
 {
     hear(back, host);
@@ -53,7 +54,7 @@ pub fn move_job<H: BackHost>(back: &mut Backend, number: u64, host: &mut H, room
 /// A round: one move of the back, then one of each job that is held, by number. Whether anything moved:
 /// where nothing did, nothing is to be done until an event or a watch comes.
 pub fn round<H: BackHost>(back: &mut Backend, host: &mut H, room: &mut Room) -> bool
-    ensures round { IsRound back.old back.new result }
+    ensures round { IsRound H.does H.hears back.old back.new result host.old host.new }
     ensures history { IsHistory back.old back.new }
 {
     let mut moved = move_back(back, host, room);

@@ -1,5 +1,4 @@
 use Rattle.std.proofs.Common.{sym}
-use Rattle.vbd_back.specs.View.{View}
 use Rattle.vbd_host.proofs.Histories.{goes_on}
 use Rattle.vbd_host.proofs.laws.a_hosts_moves_are_a_run.Goals as goal
 

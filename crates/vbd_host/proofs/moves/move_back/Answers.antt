@@ -4,11 +4,21 @@ use Rattle.vbd_host.proofs.Histories.{back_history}
 use Rattle.vbd_host.proofs.moves.move_back.Goals as goal
 
 pub returns-in_default-clause-moves : goal.returns-in_default-clause-moves
-returns-in_default-clause-moves g c = back_rested c.args.back.now _ _ c.hear.ensures c.ask.ensures.value c.in_default.ensures.none
+returns-in_default-clause-moves g c =
+    back_rested g.H.BackHost.does g.H.BackHost.hears c.args.back.now _ _ c.args.host.now c.args.host.now c.hear.ensures.taken c.ask.ensures.value c.in_default.ensures.none
 
 pub returns-in_default-clause-history : goal.returns-in_default-clause-history
-returns-in_default-clause-history g c = back_history false _ _ (back_rested c.args.back.now _ _ c.hear.ensures c.ask.ensures.value c.in_default.ensures.none)
+returns-in_default-clause-history g c =
+    back_history g.H.BackHost.does g.H.BackHost.hears false _ _ c.args.host.now c.args.host.now
+    (back_rested g.H.BackHost.does g.H.BackHost.hears c.args.back.now _ _ c.args.host.now c.args.host.now c.hear.ensures.taken c.ask.ensures.value c.in_default.ensures.none)
+
+pub returns-clause-moves : goal.returns-clause-moves
+returns-clause-moves g c =
+    back_moved g.H.BackHost.does g.H.BackHost.hears c.args.back.now _ _ _ _ _ _ _ _ _ c.hear.ensures.taken c.hear.ensures.told c.ask.ensures.value
+    c.in-Some.ensures.allowed c.in-Some.ensures.done c.tell.ensures.completed c.hear-2.ensures.taken c.hear-2.ensures.told
 
 pub returns-clause-history : goal.returns-clause-history
 returns-clause-history g c =
-    back_history true _ _ (back_moved c.args.back.now _ _ _ _ _ c.hear.ensures c.ask.ensures.value c.in-Some.ensures.allowed c.tell.ensures.completed c.hear-2.ensures)
+    back_history g.H.BackHost.does g.H.BackHost.hears true _ _ _ _
+    (back_moved g.H.BackHost.does g.H.BackHost.hears c.args.back.now _ _ _ _ _ _ _ _ _ c.hear.ensures.taken c.hear.ensures.told c.ask.ensures.value
+    c.in-Some.ensures.allowed c.in-Some.ensures.done c.tell.ensures.completed c.hear-2.ensures.taken c.hear-2.ensures.told)
