@@ -3,6 +3,7 @@ ghost use Rattle.std.specs.Prelude.{◌≡◌, IfSome, IfNone};
 ghost use Rattle.back_jobs.specs.Work.{IsAnswer as IsJobAnswer};
 ghost use Rattle.back_laws.specs.Happening.{IsNarrow};
 ghost use Rattle.vbd_back.specs.Ask.{IsAnswer as IsBackAnswer};
+ghost use Rattle.vbd_host.specs.Moves.{Did, DidForBack};
 ghost use Rattle.vbd_host.specs.Answer.{woken_answer, map_answer, bind_answer, disk_answer, sector_answer, IsLeft, IsLeftToJob, IsNoMemory, IsNoKey};
 
 use crate::host::{BackHost, BindRefused, DiskFailed};
@@ -29,8 +30,8 @@ impl Room {
     }
 }
 
-/// What a map gave, as the answer to it: the mapping of that number, or the status of its refusal.
-pub fn mapped(gref: u32, mode: Mode, given: Result<u64, i32>) -> BackAnswer<'static>
+// What a map gave, as the answer to it: the mapping of that number, or the status of its refusal.
+fn mapped(gref: u32, mode: Mode, given: Result<u64, i32>) -> BackAnswer<'static>
     ensures { result ≡ map_answer gref mode given }
 {
     match given {
@@ -39,8 +40,8 @@ pub fn mapped(gref: u32, mode: Mode, given: Result<u64, i32>) -> BackAnswer<'sta
     }
 }
 
-/// What binding a port gave, as the answer to it.
-pub fn bound(given: Result<(), BindRefused>) -> BackAnswer<'static>
+// What binding a port gave, as the answer to it.
+fn bound(given: Result<(), BindRefused>) -> BackAnswer<'static>
     ensures { result ≡ bind_answer given }
 {
     match given {
@@ -49,8 +50,8 @@ pub fn bound(given: Result<(), BindRefused>) -> BackAnswer<'static>
     }
 }
 
-/// What a write, a flush or a trim of the disk gave, as the answer to it.
-pub fn disk_done(given: Result<(), DiskFailed>) -> BackAnswer<'static>
+// What a write, a flush or a trim of the disk gave, as the answer to it.
+fn disk_done(given: Result<(), DiskFailed>) -> BackAnswer<'static>
     ensures { result ≡ disk_answer given }
 {
     match given {
@@ -88,7 +89,7 @@ fn key_read<'a>(given: Option<Text>, room: &'a mut Room) -> BackAnswer<'a>
 // A sector of the disk is read.
 fn sector_read<'a, H: BackHost>(sector: u64, host: &mut H, room: &'a mut Room) -> BackAnswer<'a>
     ensures allowed { IsJobAnswer (BackAsk.DiskRead sector) result }
-    ensures done { H.does host.old (BackAsk.DiskRead sector) result host.new }
+    ensures done { H.does host.old (BackAsk.DiskRead sector) (Some result) host.new }
 {
     match host.read_sector(sector, &mut room.sector) {
         Ok(()) => BackAnswer::Sector(Lent::at(&room.sector)),
@@ -102,7 +103,7 @@ fn sector_read<'a, H: BackHost>(sector: u64, host: &mut H, room: &'a mut Room) -
 fn answer_memory<H: BackHost>(ask: &BackAsk, host: &mut H) -> Option<BackAnswer<'static>>
     ensures back { IfSome result (λ answer. IsBackAnswer ask.now answer × IsNarrow answer) }
     ensures job { IfSome result (λ answer. IsJobAnswer ask.now answer) }
-    ensures done { IfSome result (λ answer. H.does host.old ask.now answer host.new) }
+    ensures done { Did H.does ask.now result host.old host.new }
     ensures none { IfNone result (IsNoMemory ask.now) }
 {
     match ask {
@@ -131,7 +132,7 @@ fn answer_keys<'a, H: BackHost>(
     room: &'a mut Room,
 ) -> Option<BackAnswer<'a>>
     ensures allowed { IfSome result (λ answer. IsBackAnswer ask.now answer × IsNarrow answer) }
-    ensures done { IfSome result (λ answer. H.does host.old ask.now answer host.new) }
+    ensures done { Did H.does ask.now result host.old host.new }
     ensures none { IfNone result (IsNoKey ask.now) }
 {
     match ask {
@@ -156,7 +157,7 @@ pub(crate) fn answer_back<'a, H: BackHost>(
     room: &'a mut Room,
 ) -> Option<BackAnswer<'a>>
     ensures allowed { IfSome result (λ answer. IsBackAnswer ask.now answer × IsNarrow answer) }
-    ensures done { IfSome result (λ answer. H.does host.old ask.now answer host.new) }
+    ensures done { DidForBack H.does ask.now result host.old host.new }
     ensures none { IfNone result (IsLeft ask.now) }
 {
     match ask {
@@ -189,7 +190,7 @@ pub(crate) fn answer_job<'a, H: BackHost>(
     room: &'a mut Room,
 ) -> Option<BackAnswer<'a>>
     ensures allowed { IfSome result (λ answer. IsJobAnswer ask.now answer) }
-    ensures done { IfSome result (λ answer. H.does host.old ask.now answer host.new) }
+    ensures done { Did H.does ask.now result host.old host.new }
     ensures none { IfNone result (IsLeftToJob ask.now) }
 {
     match ask {

@@ -5,12 +5,12 @@ use Rattle.vbd_host.proofs.moves.move_back.Goals as goal
 
 pub returns-in_default-clause-moves : goal.returns-in_default-clause-moves
 returns-in_default-clause-moves g c =
-    back_rested g.H.BackHost.does g.H.BackHost.hears c.args.back.now _ _ c.args.host.now c.args.host.now c.hear.ensures.taken c.ask.ensures.value c.in_default.ensures.none
+    back_rested g.H.BackHost.does g.H.BackHost.hears c.args.back.now _ _ c.args.host.now _ _ c.hear.ensures.taken c.hear.ensures.told c.ask.ensures.value c.in_default.ensures.none c.in_default.ensures.done
 
 pub returns-in_default-clause-history : goal.returns-in_default-clause-history
 returns-in_default-clause-history g c =
-    back_history g.H.BackHost.does g.H.BackHost.hears false _ _ c.args.host.now c.args.host.now
-    (back_rested g.H.BackHost.does g.H.BackHost.hears c.args.back.now _ _ c.args.host.now c.args.host.now c.hear.ensures.taken c.ask.ensures.value c.in_default.ensures.none)
+    back_history g.H.BackHost.does g.H.BackHost.hears false _ _ c.args.host.now _
+    (back_rested g.H.BackHost.does g.H.BackHost.hears c.args.back.now _ _ c.args.host.now _ _ c.hear.ensures.taken c.hear.ensures.told c.ask.ensures.value c.in_default.ensures.none c.in_default.ensures.done)
 
 pub returns-clause-moves : goal.returns-clause-moves
 returns-clause-moves g c =
