@@ -15,7 +15,8 @@ use Rattle.xenbus_state.specs.declared.back.BackBusAsk.{BackBusAsk}
 use Rattle.xenbus_state.specs.declared.back.BackBusAsk.TheVariants as bus_ask
 use Rattle.vbd_back.specs.View.{View}
 use Rattle.vbd_back.specs.Ask.{bus_ask_of, bus_moves, key_ask, ring_moves, ring_ask, ask_of, is_waiting, IsAnswer}
-use Rattle.vbd_host.specs.Answer.{IsLeft}
+use Rattle.back_jobs.specs.Hands.{Names}
+use Rattle.vbd_host.specs.Answer.{IsLeft, IsWithin}
 
 abbrev is_of_ring : BackAsk → Bool
 is_of_ring (ask.GetKey path) = false
@@ -78,3 +79,9 @@ left_by false false a v l = refl
 
 pub left_waits : (v : View) → IsLeft (ask_of v) → is_waiting v ≡ true
 left_waits v l = left_by (bus_moves (bus_ask_of v) v.ring.stage) (ring_moves (bus_ask_of v) v.ring.stage) (bus_ask_of v) v l
+
+-- what the back and its jobs ask to be read and written is within what they hold
+pub names_within : (held : List Mapping) (a : BackAsk) → Names held a → IsWithin a
+names_within held (ask.Read m word) n = n.1
+names_within held (ask.Write m word value) n = (n.1, n.2)
+names_within held a n = tt

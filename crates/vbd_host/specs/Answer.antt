@@ -1,12 +1,19 @@
 -- What a host gives, as the answer to an ask.
-use Rattle.std.specs.Prelude.{ℕ, ℤ, List, Option, Some, None, Result, Ok, Err}
+use Rattle.std.specs.Prelude.{◌≡◌, ℕ, ◌<◌, ℤ, List, Option, Some, None, Result, Ok, Err}
 use Rattle.blk_base.specs.declared.parts.Mode.{Mode}
+use Rattle.blk_base.specs.declared.parts.Mode.TheVariants.{ReadWrite}
 use Rattle.blk_base.specs.declared.ask.BackAsk.{BackAsk}
 use Rattle.blk_base.specs.declared.ask.BackAsk.TheVariants as ask
 use Rattle.blk_base.specs.declared.ask.BackAnswer.{BackAnswer}
 use Rattle.blk_base.specs.declared.ask.BackAnswer.TheVariants.{Event, Watched, Done, Mapped, MapRefused, BindRefused, Sector, DiskFailed}
 use Rattle.vbd_host.specs.declared.woken.Woken.{Woken}
 use Rattle.vbd_host.specs.declared.woken.Woken.TheVariants as woken
+
+-- a word that is to be read or written is one of a page, and is written through a mapping for writing
+abbrev pub IsWithin : BackAsk → Type 0
+IsWithin (ask.Read m word) = word < 1024
+IsWithin (ask.Write m word value) = (m.mode ≡ ReadWrite) × (word < 1024)
+IsWithin a = Unit {0}
 
 -- what wakes a back, if anything came
 abbrev pub woken_answer : Option Woken → Option BackAnswer

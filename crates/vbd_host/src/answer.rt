@@ -4,7 +4,7 @@ ghost use Rattle.back_jobs.specs.Work.{IsAnswer as IsJobAnswer};
 ghost use Rattle.back_laws.specs.Happening.{IsNarrow};
 ghost use Rattle.vbd_back.specs.Ask.{IsAnswer as IsBackAnswer};
 ghost use Rattle.vbd_host.specs.Moves.{Did, DidForBack};
-ghost use Rattle.vbd_host.specs.Answer.{woken_answer, map_answer, bind_answer, disk_answer, sector_answer, IsLeft, IsLeftToJob, IsNoMemory, IsNoKey};
+ghost use Rattle.vbd_host.specs.Answer.{woken_answer, map_answer, bind_answer, disk_answer, sector_answer, IsWithin, IsLeft, IsLeftToJob, IsNoMemory, IsNoKey};
 
 use crate::host::{BackHost, BindRefused, DiskFailed};
 use crate::woken::Woken;
@@ -101,6 +101,7 @@ fn sector_read<'a, H: BackHost>(sector: u64, host: &mut H, room: &'a mut Room) -
 // something else is asked.
 #[inline(always)]
 fn answer_memory<H: BackHost>(ask: &BackAsk, host: &mut H) -> Option<BackAnswer<'static>>
+    requires { IsWithin ask.now }
     ensures back { IfSome result (λ answer. IsBackAnswer ask.now answer × IsNarrow answer) }
     ensures job { IfSome result (λ answer. IsJobAnswer ask.now answer) }
     ensures done { Did H.does ask.now result host.old host.new }
@@ -156,6 +157,7 @@ pub(crate) fn answer_back<'a, H: BackHost>(
     host: &mut H,
     room: &'a mut Room,
 ) -> Option<BackAnswer<'a>>
+    requires { IsWithin ask.now }
     ensures allowed { IfSome result (λ answer. IsBackAnswer ask.now answer × IsNarrow answer) }
     ensures done { DidForBack H.does ask.now result host.old host.new }
     ensures none { IfNone result (IsLeft ask.now) }
@@ -189,6 +191,7 @@ pub(crate) fn answer_job<'a, H: BackHost>(
     host: &mut H,
     room: &'a mut Room,
 ) -> Option<BackAnswer<'a>>
+    requires { IsWithin ask.now }
     ensures allowed { IfSome result (λ answer. IsJobAnswer ask.now answer) }
     ensures done { Did H.does ask.now result host.old host.new }
     ensures none { IfNone result (IsLeftToJob ask.now) }

@@ -1,4 +1,5 @@
 // What a host does for a back and its jobs.
+ghost use Rattle.std.specs.Prelude.{◌≡◌, ◌<◌};
 ghost use Rattle.vbd_host.specs.Answer.{woken_answer, map_answer, bind_answer, disk_answer, sector_answer};
 
 use crate::woken::Woken;
@@ -14,7 +15,7 @@ pub struct BindRefused;
 pub struct DiskFailed;
 
 /// What a host does for a back and its jobs, each method one thing that they ask. Words are numbers below 1024 of a
-/// mapped page, sectors are of 512 bytes. A host may answer as it likes: nothing is required of it.
+/// mapped page, sectors are of 512 bytes. A host may answer as it likes, and needs to say nothing of that.
 pub trait BackHost {
     ghost use Rattle.std.specs.Prelude.{Option};
     ghost use Rattle.blk_base.specs.declared.ask.BackAsk.{BackAsk};
@@ -38,10 +39,13 @@ pub trait BackHost {
 
     /// Reads a word through a mapping, at once.
     fn read(&mut self, mapping: Mapping, word: u32) -> u32
+        requires { word < 1024 }
         ensures { does self.old (BackAsk.Read mapping word) (Some (BackAnswer.Word result)) self.new };
 
     /// Writes a word through a mapping for writing, at once.
     fn write(&mut self, mapping: Mapping, word: u32, value: u32)
+        requires writable { mapping.mode ≡ Mode.ReadWrite }
+        requires word_in { word < 1024 }
         ensures { does self.old (BackAsk.Write mapping word value) (Some BackAnswer.Done) self.new };
 
     /// Maps the frame of a grant reference (`GNTTABOP_map_grant_ref`), and gives a number for the mapping, by

@@ -1,7 +1,11 @@
 use Rattle.std.proofs.Common.{true, false}
 use Rattle.vbd_host.proofs.Steps.{back_moved, back_rested}
+use Rattle.vbd_host.proofs.Waits.{names_within}
 use Rattle.vbd_host.proofs.Histories.{back_history}
 use Rattle.vbd_host.proofs.moves.move_back.Goals as goal
+
+pub answer_back-requires : goal.answer_back-requires
+answer_back-requires g c = names_within _ c.ask.result c.ask.ensures.names
 
 pub returns-in_default-clause-moves : goal.returns-in_default-clause-moves
 returns-in_default-clause-moves g c =

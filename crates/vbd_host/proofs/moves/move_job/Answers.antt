@@ -1,7 +1,11 @@
 use Rattle.std.proofs.Common.{true}
 use Rattle.vbd_host.proofs.Steps.{job_moved}
+use Rattle.vbd_host.proofs.Waits.{names_within}
 use Rattle.vbd_host.proofs.Histories.{job_history, is_heard}
 use Rattle.vbd_host.proofs.moves.move_job.Goals as goal
+
+pub answer_job-requires : goal.answer_job-requires
+answer_job-requires g c = names_within _ c.job_ask.result c.job_ask.ensures.names
 
 pub returns-in_default-clause-history : goal.returns-in_default-clause-history
 returns-in_default-clause-history g c = rw (c.hear.ensures.taken) (is_heard c.args.back.now)
