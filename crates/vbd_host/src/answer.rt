@@ -13,16 +13,16 @@ use blk_base::{BackAnswer, BackAsk, Lent, Mapping, Mode, Path, SectorWords, Text
 /// Where lies what an answer lends: the words of a sector that was read, the path of a watch that fired,
 /// and the text of a key.
 #[derive(Drop)]
-pub struct Room {
+pub struct AnswerRoom {
     sector: SectorWords,
     path: Path,
     text: Text,
 }
 
-impl Room {
-    /// Room for one answer at a time.
-    pub fn new() -> Room {
-        Room {
+impl AnswerRoom {
+    /// AnswerRoom for one answer at a time.
+    pub fn new() -> AnswerRoom {
+        AnswerRoom {
             sector: [0; 128],
             path: Path::new(),
             text: Text::new(),
@@ -61,7 +61,7 @@ fn disk_done(given: Result<(), DiskFailed>) -> BackAnswer<'static>
 }
 
 // What the back waits for, where it came.
-fn woken<'a>(given: Option<Woken>, room: &'a mut Room) -> Option<BackAnswer<'a>>
+fn woken<'a>(given: Option<Woken>, room: &'a mut AnswerRoom) -> Option<BackAnswer<'a>>
     ensures { result ≡ woken_answer given }
 {
     match given? {
@@ -74,7 +74,7 @@ fn woken<'a>(given: Option<Woken>, room: &'a mut Room) -> Option<BackAnswer<'a>>
 }
 
 // The text of a key, where there is one.
-fn key_read<'a>(given: Option<Text>, room: &'a mut Room) -> BackAnswer<'a>
+fn key_read<'a>(given: Option<Text>, room: &'a mut AnswerRoom) -> BackAnswer<'a>
     ensures { result ≡ BackAnswer.Key given }
 {
     match given {
@@ -87,7 +87,11 @@ fn key_read<'a>(given: Option<Text>, room: &'a mut Room) -> BackAnswer<'a>
 }
 
 // A sector of the disk is read.
-fn sector_read<'a, H: BackHost>(sector: u64, host: &mut H, room: &'a mut Room) -> BackAnswer<'a>
+fn sector_read<'a, H: BackHost>(
+    sector: u64,
+    host: &mut H,
+    room: &'a mut AnswerRoom,
+) -> BackAnswer<'a>
     ensures allowed { IsJobAnswer (BackAsk.DiskRead sector) result }
     ensures done { H.does host.old (BackAsk.DiskRead sector) (Some result) host.new }
 {
@@ -130,7 +134,7 @@ fn answer_memory<H: BackHost>(ask: &BackAsk, host: &mut H) -> Option<BackAnswer<
 fn answer_keys<'a, H: BackHost>(
     ask: &BackAsk,
     host: &mut H,
-    room: &'a mut Room,
+    room: &'a mut AnswerRoom,
 ) -> Option<BackAnswer<'a>>
     ensures allowed { IfSome result (λ answer. IsBackAnswer ask.now answer × IsNarrow answer) }
     ensures done { Did H.does ask.now result host.old host.new }
@@ -155,7 +159,7 @@ fn answer_keys<'a, H: BackHost>(
 pub(crate) fn answer_back<'a, H: BackHost>(
     ask: &BackAsk,
     host: &mut H,
-    room: &'a mut Room,
+    room: &'a mut AnswerRoom,
 ) -> Option<BackAnswer<'a>>
     requires { IsWithin ask.now }
     ensures allowed { IfSome result (λ answer. IsBackAnswer ask.now answer × IsNarrow answer) }
@@ -189,7 +193,7 @@ pub(crate) fn answer_back<'a, H: BackHost>(
 pub(crate) fn answer_job<'a, H: BackHost>(
     ask: &BackAsk,
     host: &mut H,
-    room: &'a mut Room,
+    room: &'a mut AnswerRoom,
 ) -> Option<BackAnswer<'a>>
     requires { IsWithin ask.now }
     ensures allowed { IfSome result (λ answer. IsJobAnswer ask.now answer) }

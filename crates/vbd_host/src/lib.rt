@@ -9,7 +9,7 @@ mod laws;
 mod moves;
 mod woken;
 
-pub use answer::Room;
+pub use answer::AnswerRoom;
 pub use host::{BackHost, BindRefused, DiskFailed};
 pub use laws::a_hosts_moves_are_a_run;
 pub use moves::{move_back, move_job, round};
