@@ -35,7 +35,8 @@ DidForBack does ask.Wait given h k = does h ask.Wait given k
 DidForBack does a given h k = Did does a given h k
 
 -- a host's part in a move: it heard what was told before, did what was asked, answered so, and heard what that told
-pub record TakesPart {H : Type 0} (does : Does H) (hears : Hears H) (before : Option BackTold) (a : BackAsk) (given : BackAnswer) (told : Option BackTold) (h k : H) : Type 0 where
+pub record TakesPart {H : Type 0} (does : Does H) (hears : Hears H)
+    (before : Option BackTold) (a : BackAsk) (given : BackAnswer) (told : Option BackTold) (h k : H) : Type 0 where
   pub asked : H
   pub answered : H
   pub heard_first : Heard hears before h asked

@@ -20,7 +20,7 @@ pub struct AnswerRoom {
 }
 
 impl AnswerRoom {
-    /// AnswerRoom for one answer at a time.
+    /// Room for one answer at a time.
     pub fn new() -> AnswerRoom {
         AnswerRoom {
             sector: [0; 128],
