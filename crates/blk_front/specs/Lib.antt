@@ -10,4 +10,5 @@ pub mod Submit
 pub mod State
 pub mod Suspend
 pub mod Keep
+pub mod Part
 pub mod Sound
