@@ -59,7 +59,7 @@ step_kept_at (stage.Trim count) t answer.Done = refl
 step_kept_at (stage.Trim count) t answer.DiskFailed = refl
 step_kept_at s t given = refl
 
-step_kept : (t : Work) (given : BackAnswer) → facts_of (step_of t given) ≡ facts_of t
+pub step_kept : (t : Work) (given : BackAnswer) → facts_of (step_of t given) ≡ facts_of t
 step_kept t given = step_kept_at t.stage t given
 
 -- nor do the mappings that are kept change any of these

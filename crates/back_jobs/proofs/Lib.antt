@@ -14,3 +14,4 @@ pub mod Settling
 pub mod Bounds
 pub mod Entire
 pub mod Plain
+pub mod Parts

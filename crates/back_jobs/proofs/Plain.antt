@@ -1,6 +1,6 @@
 -- Where no mapping may be kept, jobs ask and do what they would without.
-use Rattle.std.proofs.Common.{◌≡◌, ℕ, Bool, true, false, List, [], ◌∷◌, refl, sym, ap, ◌∙◌, subst}
-use Rattle.std.specs.Prelude.{Option, Some, None, slice_set}
+use Rattle.std.proofs.Common.{◌≡◌, ℕ, Bool, true, false, List, [], ◌∷◌, refl, sym, ap, ◌∙◌}
+use Rattle.std.specs.Prelude.{Option, Some, None}
 use Rattle.std.specs.Option.{option_or}
 use Rattle.blk_base.specs.declared.parts.Mapping.{Mapping}
 use Rattle.blk_base.specs.declared.ask.BackAnswer.{BackAnswer}
@@ -12,7 +12,7 @@ use Rattle.back_jobs.specs.declared.stage.JobStage.{JobStage}
 use Rattle.back_jobs.specs.declared.stage.JobStage.TheVariants as stage
 use Rattle.back_jobs.specs.Work.{Work, step_of, begun}
 use Rattle.back_jobs.specs.Jobs.{HeldJobs, place_of, work_of, waits, waits_at, asked, ask_job, told_at, complete_job, start_job, first_mapping, after_mapping}
-use Rattle.back_jobs.specs.Keeping.{Settled, waits_in, asked_in, ask_keeping, takes, settled_at, settled, with_settled, with_begun, told_keeping, complete_keeping, start_keeping, first_given, given_from, after_given}
+use Rattle.back_jobs.specs.Keeping.{waits_in, asked_in, ask_keeping, takes, settled_at, settled, with_settled, with_begun, told_keeping, complete_keeping, start_keeping, first_given, given_from, after_given}
 
 -- what settles changes nothing
 takes_plain : (rest : List Segment) (t : Work) → takes (none_kept 0) rest t ≡ record { kept = none_kept 0; job = t }

@@ -1,6 +1,6 @@
 -- What jobs make of the mappings that are kept: nothing is lost, and what is kept may be used by any job.
-use Rattle.std.proofs.Common.{◌≡◌, ℕ, zero, suc, ◌+◌, ◌-◌, Bool, true, false, cond, if◌then◌else◌, List, [], ◌∷◌, ◌++◌, take, length, refl, sym, ap, ◌∙◌, subst, append_assoc, arith}
-use Rattle.std.specs.Prelude.{Option, Some, None, IfSome, All, IsPermutation, option_to_list, slice_get, slice_set, is_some, is_none, not, ◌==◌, nat_eq, drop, remove}
+use Rattle.std.proofs.Common.{◌≡◌, ℕ, suc, ◌+◌, ◌-◌, Bool, true, false, cond, if◌then◌else◌, List, [], ◌∷◌, ◌++◌, take, length, refl, sym, ap, ◌∙◌, subst, append_assoc, arith}
+use Rattle.std.specs.Prelude.{Option, Some, None, All, IsPermutation, option_to_list, slice_get, slice_set, is_some, is_none, not, ◌==◌, nat_eq, drop, remove}
 use Rattle.std.specs.Option.{option_map}
 use Rattle.std.specs.Map.{lookup, remove_entry}
 use Rattle.std.proofs.lemmas.Bool.{false≢true}
@@ -18,12 +18,12 @@ use Rattle.blk_base.specs.declared.ask.BackAnswer.TheVariants as answer
 use Rattle.blk_layout.specs.declared.segment.Segment.{Segment}
 use Rattle.blk_layout.specs.declared.request.RawRequest.{RawRequest}
 use Rattle.segment_list.specs.declared.verdict.Verdict.{Verdict}
-use Rattle.persist_grants.specs.KeptMappings.{KeptMappings, none_kept, may_keep, mapping_for, mappings_of, without, least_recent, without_least_recent}
+use Rattle.persist_grants.specs.KeptMappings.{KeptMappings, none_kept, may_keep, mapping_for, mappings_of, least_recent, without_least_recent}
 use Rattle.persist_grants.specs.PutBack.{handed_out, makes_room, with_mapping, answer_of}
 use Rattle.persist_grants.specs.declared.kept.PutBack.TheVariants as PutBack
 use Rattle.back_jobs.specs.declared.stage.JobStage.{JobStage}
 use Rattle.back_jobs.specs.declared.stage.JobStage.TheVariants as stage
-use Rattle.back_jobs.specs.Work.{Work, IsAnswer, map_in, page_ask, begun, step_of, step_at, sector_stage, next_segment, next_sector, page_done, judged, passes, counted, is_copied_out, rest_of, last_of, first_of}
+use Rattle.back_jobs.specs.Work.{Work, IsAnswer, map_in, page_ask, begun, step_of, step_at, sector_stage, next_segment, next_sector, judged, passes, counted, is_copied_out, rest_of, last_of, first_of}
 use Rattle.back_jobs.specs.Jobs.{HeldJobs, mapping_at, first_mapping, after_mapping}
 use Rattle.back_jobs.specs.Hands.{hand_of, hands_in, HasOneMore, HandsAfter, HandsKeep}
 use Rattle.back_jobs.specs.Keeping.{ask_with, ask_in, asked_in, begun_with, takes, returned, failed_with, settled_at, settled, IsKeepable, AreKeepable, IsWritableAt, IsKeeping, all_hands}

@@ -4,22 +4,15 @@ use Rattle.std.specs.Prelude.{Some, Contains, is_some, not, remove, slice_get, s
 use Rattle.std.proofs.lemmas.Option.{get_or_from_slice_get, slice_get_within}
 use Rattle.std.proofs.lemmas.List.Elements.{All-tail, All-set, All-push, All-append, All-take, All-drop, All-get_or}
 use Rattle.blk_base.specs.declared.parts.Mapping.{Mapping}
-use Rattle.blk_base.specs.declared.parts.Mode.{Mode}
-use Rattle.blk_base.specs.declared.parts.Mode.TheVariants.{ReadWrite}
 use Rattle.blk_base.specs.declared.operation.Status.TheVariants.{Error}
-use Rattle.blk_layout.specs.declared.segment.Segment.{Segment}
 use Rattle.blk_layout.specs.declared.request.RawRequest.{RawRequest}
 use Rattle.blk_layout.specs.declared.request.RawRequest.TheVariants.{Direct, Discard, Indirect}
 use Rattle.segment_list.specs.declared.verdict.Verdict.{Verdict}
 use Rattle.segment_list.specs.declared.verdict.Verdict.TheVariants as verdict
-use Rattle.back_jobs.specs.declared.stage.JobStage.{JobStage}
 use Rattle.back_jobs.specs.declared.stage.JobStage.TheVariants as stage
-use Rattle.back_jobs.specs.Work.{Work, ask_at, map_in, page_ask, paging, mode_of, begun, served, moving, ended, frameless}
+use Rattle.back_jobs.specs.Work.{Work, paging, begun, served, moving, ended, frameless}
 use Rattle.back_jobs.specs.Jobs.{mapping_at, after_mapping}
-use Rattle.back_jobs.specs.Sound.{AreSized, IsPlaced, StaysInPageAndDisk}
-use Rattle.back_jobs.specs.Keeping.{ask_with}
-use Rattle.back_jobs.specs.Hands.{Names}
-use Rattle.back_jobs.proofs.Hands.{hand_at}
+use Rattle.back_jobs.specs.Sound.{AreSized}
 use Rattle.back_jobs.proofs.Kept.{Facts, facts_of}
 
 -- the number and the disk's size that a job has

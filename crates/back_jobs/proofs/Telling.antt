@@ -10,7 +10,7 @@ use Rattle.back_jobs.specs.Keeping.{ask_in, asked_in, waits_in, ask_keeping, set
 use Rattle.back_jobs.specs.Hands.{hand_of, hands_in, HandsKeep}
 use Rattle.persist_grants.specs.KeptMappings.{KeptMappings, may_keep, mappings_of}
 use Rattle.blk_base.specs.declared.parts.Mapping.{Mapping}
-use Rattle.back_jobs.specs.Sound.{AreSized, IsKept, done_numbers}
+use Rattle.back_jobs.specs.Sound.{IsKept, done_numbers}
 use Rattle.back_jobs.proofs.Done.{done_after, told_done}
 use Rattle.back_jobs.proofs.Listed.{noted, told_listed, listed_fewer, noting}
 use Rattle.back_jobs.proofs.Numbers.{set_ascending}
@@ -45,7 +45,7 @@ told_hands h number place t u now a found here allowed p =
     subst (λ (o : Option Work). HandsKeep (asked_in keeps held o) a (all_hands h) (hands_in (slice_set h.works place u) ++ now)) (sym is)
     (told_nothing_lost h place t u now keeps held a here (subst (λ (o : Option Work). IsAnswer (asked_in keeps held o) a) is allowed) p)
 
-set_there : (works : List Work) (place : ℕ) (u : Work) → place < length works → slice_get (slice_set works place u) place ≡ Some u
+pub set_there : (works : List Work) (place : ℕ) (u : Work) → place < length works → slice_get (slice_set works place u) place ≡ Some u
 set_there [] place u within = absurd (omega arith)
 set_there (w ∷ works) zero u within = refl
 set_there (w ∷ works) (suc place) u within = set_there works place u (omega arith)

@@ -6,3 +6,4 @@ pub mod Jobs
 pub mod Order
 pub mod Hands
 pub mod Keeping
+pub mod Part

@@ -14,6 +14,7 @@ ghost use Rattle.back_jobs.specs.declared.stage.JobStage.TheVariants as stage;
 
 mod begun;
 mod keeping;
+mod parts;
 mod steps;
 
 use crate::effect::Effect;

@@ -14,6 +14,7 @@ ghost use Rattle.ring_words.specs.Shape.{entries_of};
 mod finding;
 mod finished;
 mod order;
+mod parts;
 mod spare;
 
 use crate::effect::Effect;

@@ -9,10 +9,12 @@
 mod effect;
 mod held_job;
 mod jobs;
+mod part;
 mod segments;
 mod stage;
 
 pub use effect::Effect;
 pub use held_job::HeldJob;
 pub use jobs::Jobs;
+pub use part::SectorPart;
 pub use stage::JobStage;

@@ -162,7 +162,7 @@ impl HeldJob {
 // The word of this number is read or written next, through the same mapping: the mapping stays where it
 // is, and only the number is written.
 #[inline(always)]
-fn next_word(stage: &mut JobStage, k: u32)
+pub(super) fn next_word(stage: &mut JobStage, k: u32)
     ensures { stage.new ≡ at_word k stage.old }
 {
     match stage {

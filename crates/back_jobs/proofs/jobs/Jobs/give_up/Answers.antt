@@ -1,10 +1,8 @@
-use Rattle.std.proofs.Common.{◌≡◌, ◌≤◌, Bool, true, List, [], ◌++◌, length, ap, sym, subst, ◌∙◌, rules, arith, vec_capacity}
-use Rattle.std.specs.Prelude.{Option, Some, None, IsPermutation, option_to_list}
-use Rattle.blk_base.specs.declared.parts.Mapping.{Mapping}
+use Rattle.std.proofs.Common.{◌≡◌, ◌≤◌, true, [], ◌++◌, length, ap, sym, subst, ◌∙◌, rules, arith, vec_capacity}
+use Rattle.std.specs.Prelude.{None, option_to_list}
 use Rattle.persist_grants.specs.KeptMappings.{KeptMappings, may_keep, mappings_of}
-use Rattle.back_jobs.specs.Jobs.{first_mapping, after_mapping}
-use Rattle.back_jobs.specs.Hands.{hands_in}
-use Rattle.back_jobs.specs.Keeping.{all_hands, IsKeeping}
+use Rattle.back_jobs.specs.Jobs.{first_mapping}
+use Rattle.back_jobs.specs.Keeping.{IsKeeping}
 use Rattle.back_jobs.specs.Segments.{AreShared}
 use Rattle.back_jobs.specs.Sound.{IsKept, AreFirst, AreAscending, done_place, done_numbers, ordered_place, barrier_place}
 use Rattle.back_jobs.proofs.Hands.{few_after}

@@ -2,7 +2,6 @@ use Rattle.std.proofs.Common.{◌≡◌, ◌<◌, ◌≤◌, ◌++◌, ◌∷◌
 use Rattle.std.proofs.Math.ListN.{length-append}
 use Rattle.std.specs.Prelude.{IsPermutation}
 use Rattle.segment_list.specs.Verdict.{verdict_of}
-use Rattle.blk_base.specs.declared.parts.Mapping.{Mapping}
 use Rattle.persist_grants.specs.KeptMappings.{KeptMappings, may_keep, mappings_of}
 use Rattle.back_jobs.specs.Work.{Work, begun}
 use Rattle.back_jobs.specs.Hands.{hand_of, hands_in}

@@ -1,7 +1,6 @@
-use Rattle.std.proofs.Common.{◌≡◌, ◌<◌, ◌++◌, ℕ, Bool, List, length, vec_capacity, true, false, rules, refl, sym, ap, ◌∙◌, subst, arith}
+use Rattle.std.proofs.Common.{◌≡◌, ◌<◌, ◌++◌, ℕ, List, length, vec_capacity, true, false, rules, refl, sym, ap, ◌∙◌, subst, arith}
 use Rattle.std.specs.Prelude.{Some, IfSome, IsPermutation, slice_get, slice_set, if◌then◌else◌, ◌==◌}
 use Rattle.std.proofs.lemmas.Option.{slice_get_read}
-use Rattle.blk_base.specs.declared.parts.Mapping.{Mapping}
 use Rattle.segment_list.specs.declared.verdict.DiskInfo.{DiskInfo}
 use Rattle.persist_grants.specs.KeptMappings.{KeptMappings, may_keep, mappings_of}
 use Rattle.back_jobs.specs.Work.{Work, IsAnswer, step_of}
