@@ -128,7 +128,7 @@ pub halted_entire : (why : Halt) (v new : View) → v.stage ≡ stage.Loop → n
 halted_entire why v new here e = rw e (subst (λ (t : BackStage). IsPermutation (all_hands_at t v) (all_hands_of (abort_keeping (record v { halted = Some why })))) (sym here) (abort_entire (record v { halted = Some why })))
 
 -- what is held beside these stays
-beside : (xs ys before after : List Mapping) → IsPermutation before after → IsPermutation (xs ++ (before ++ ys)) (xs ++ (after ++ ys))
+pub beside : (xs ys before after : List Mapping) → IsPermutation before after → IsPermutation (xs ++ (before ++ ys)) (xs ++ (after ++ ys))
 beside xs ys before after p = IsPermutation-append_right xs (before ++ ys) (after ++ ys) (IsPermutation-append_left ys before after p)
 
 framed_keep : (a : BackAsk) (given : BackAnswer) (xs ys before after : List Mapping) → HandsKeep a given before after → HandsKeep a given (xs ++ (before ++ ys)) (xs ++ (after ++ ys))

@@ -4,3 +4,4 @@ pub mod Hands
 pub mod Plain
 pub mod Keeping
 pub mod Sound
+pub mod Parts

@@ -5,3 +5,4 @@ pub mod Step
 pub mod Keeping
 pub mod Sound
 pub mod Hands
+pub mod Part

@@ -11,6 +11,7 @@ ghost use Rattle.back_jobs.specs.Jobs.{ask_job, next_after};
 ghost use Rattle.back_jobs.specs.Work.{IsAnswer as IsJobAnswer};
 
 mod jobs;
+mod parts;
 mod steps;
 
 use crate::stage::{BackStage, Reply};
