@@ -1,3 +1,4 @@
+pub mod PartTurns
 pub mod Stays
 pub mod Turns
 pub mod Unkept

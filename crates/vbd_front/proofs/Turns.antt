@@ -33,7 +33,7 @@ use Rattle.vbd_front.specs.Turn.{turn_at, turn_of}
 use Rattle.vbd_front.proofs.Stays.{stays}
 
 -- at no turn but that of keys the negotiation speaks
-silent : (a : FrontBusAsk) (c m : Bool) → (turn_at a c m ≡ turn.Keys → ⊥) → speaks a ≡ false
+pub silent : (a : FrontBusAsk) (c m : Bool) → (turn_at a c m ≡ turn.Keys → ⊥) → speaks a ≡ false
 silent bus_ask.Watch c m n = absurd (n refl)
 silent bus_ask.GetState c m n = absurd (n refl)
 silent (bus_ask.GetKey key) c m n = absurd (n refl)
@@ -206,11 +206,11 @@ pub made_answers : (v : View) (x : FrontAnswer) → turn_of v ≡ turn.Ring → 
 made_answers v x t h = narrowed (ring.ask_of v.ring) x (of_ring v.ring.stage v.ring) (subst (λ (a : FrontAsk). IsAnswer a x) (made_asks v t) h)
 
 -- no watch is taken
-abbrev is_plain : FrontAnswer → Bool
+abbrev pub is_plain : FrontAnswer → Bool
 is_plain (answer.Watched path) = false
 is_plain x = true
 
-not_woken : (broken idle : Bool) (w : FrontView) (x : FrontAnswer) → is_plain x ≡ true → woken broken idle w x ≡ w
+pub not_woken : (broken idle : Bool) (w : FrontView) (x : FrontAnswer) → is_plain x ≡ true → woken broken idle w x ≡ w
 not_woken true idle w x p = refl
 not_woken false idle w (answer.Watched path) p = absurd (cc)
 not_woken false idle w x p = refl

@@ -2,5 +2,6 @@ pub mod View
 pub mod Ask
 pub mod Step
 pub mod Turn
+pub mod Part
 pub mod Inside
 pub mod Sound

@@ -1,5 +1,5 @@
 // Both of the front's ends.
-ghost use Rattle.std.specs.Prelude.{◌≡◌, ◌||◌, ◌≤◌, ◌^◌, None, is_some, IfOk, IfSome, true, false};
+ghost use Rattle.std.specs.Prelude.{◌≡◌, ◌||◌, ◌≤◌, ◌^◌, None, is_some, IfOk, IfSome, true, false, length};
 ghost use Rattle.blk_front.specs.Ask.{ask_of as ring_ask_of, data_asked, IsAnswer as IsRingAnswer};
 ghost use Rattle.blk_front.specs.Step.{step_of as ring_step_of};
 ghost use Rattle.blk_front.specs.Submit.{submit_of, unfinished, sectors_owed, is_wait};
@@ -10,11 +10,13 @@ ghost use Rattle.blk_front.specs.State.{is_open};
 ghost use Rattle.blk_front.specs.Suspend.{is_left};
 ghost use Rattle.vbd_front.specs.Step.{spoken, ring_step, step_of, closes, suspended};
 ghost use Rattle.vbd_front.specs.Turn.{turn_of};
+ghost use Rattle.blk_front.specs.Part.{HasWritten, HasRead, all_written, all_read, AsksEach, IsWithin};
+ghost use Rattle.vbd_front.specs.Part.{sector_part, steps_of, AreTellable};
 
 use crate::news;
 use crate::turn::{self, Turn};
 use blk_base::{Config, Endpoint, FrontAnswer, FrontAsk, OutOfMemory, Refusal, Submission};
-use blk_front::{Front, FrontStage, Told};
+use blk_front::{Front, FrontStage, SectorPart, Told};
 use std::alloc::Global;
 use std::marker::Model;
 use xenbus_state::{FrontBus, FrontBusAsk, FrontNews};
@@ -181,6 +183,43 @@ impl Ends {
     {
         let idle = self.is_unoccupied();
         news::wake(&mut self.bus, idle, answer);
+    }
+
+    /// The words of a request's data that it asks for next, up to the last word of their sector.
+    pub fn sector_part(&self, turn: Turn) -> Option<SectorPart>
+        requires { turn ≡ turn_of self.now }
+        ensures value { result ≡ sector_part self.now }
+        ensures asked { IfSome result (AsksEach ask_of step_of self.now) }
+        ensures within { IfSome result IsWithin }
+    {
+        match turn {
+            Turn::Keys => None,
+            _ if self.ring_moves() => self.ring.sector_part(),
+            _ => None,
+        }
+    }
+
+    /// So many of those words were written.
+    pub fn tell_written(&mut self, count: u32)
+        requires part { HasWritten (sector_part self.old) count }
+        requires told { self.old.ring.told ≡ None }
+        ensures ends { self.new ≡ steps_of self.old (all_written count) }
+        ensures each { AreTellable self.old (all_written count) }
+        ensures told { self.new.ring.told ≡ None }
+        ensures ring { self.new ≡ record self.old { ring = self.new.ring } }
+    {
+        self.ring.tell_written(count);
+    }
+
+    /// These of them were read.
+    pub fn tell_read(&mut self, words: &[u32])
+        requires part { HasRead (sector_part self.old) (length words.now) }
+        requires told { self.old.ring.told ≡ None }
+        ensures ends { self.new ≡ steps_of self.old (all_read words.now) }
+        ensures each { AreTellable self.old (all_read words.now) }
+        ensures ring { self.new ≡ record self.old { ring = self.new.ring } }
+    {
+        self.ring.tell_read(words);
     }
 
     /// The front is asked to close.

@@ -1,17 +1,19 @@
 // The frontend.
-ghost use Rattle.std.specs.Prelude.{◌≡◌, ◌||◌, ◌≤◌, ◌^◌, None, is_some, IfOk, IfSome, IsOk};
+ghost use Rattle.std.specs.Prelude.{◌≡◌, ◌||◌, ◌≤◌, ◌^◌, None, is_some, IfOk, IfSome, IsOk, length};
 ghost use Rattle.blk_front.specs.Submit.{submit_of, unfinished, sectors_owed};
 ghost use Rattle.vbd_front.specs.View.{start_of, heard};
 ghost use Rattle.vbd_front.specs.Ask.{ask_of, is_waiting, IsAnswer, StaysInMemory};
 ghost use Rattle.vbd_front.specs.Turn.{data_asked};
 ghost use Rattle.blk_front.specs.State.{is_open};
+ghost use Rattle.blk_front.specs.Part.{HasWritten, HasRead, all_written, all_read, AsksEach, IsWithin};
+ghost use Rattle.vbd_front.specs.Part.{sector_part, steps_of, AreTellable};
 ghost use Rattle.vbd_front.specs.Step.{step_of, closes, suspended};
 
 use crate::ends::Ends;
 use crate::key::Key;
 use crate::turn::Turn;
 use blk_base::{Config, Endpoint, FrontAnswer, FrontAsk, OutOfMemory, Refusal, Submission};
-use blk_front::Told;
+use blk_front::{SectorPart, Told};
 use std::alloc::Global;
 use std::marker::Model;
 use xenbus_state::FrontNews;
@@ -161,6 +163,44 @@ impl Frontend {
             Turn::Ring => self.ends.data_asked(),
             _ => None,
         }
+    }
+
+    /// The words of a request's data that it asks for next, one after another, up to the last word of their sector: of a
+    /// write or a barrier as it is issued, and of a read that was answered. `None` where it asks for no such word.
+    pub fn sector_part(&self) -> Option<SectorPart>
+        ensures value { result ≡ sector_part self.now }
+        ensures asked { IfSome result (AsksEach ask_of step_of self.now) }
+        ensures within { IfSome result IsWithin }
+    {
+        self.ends.sector_part(self.turn)
+    }
+
+    /// So many of the words that it asks for were written: as many single answers, one after another. Nothing is told.
+    pub fn tell_written(&mut self, count: u32)
+        requires part { HasWritten (sector_part self.old) count }
+        requires told { self.old.ring.told ≡ None }
+        ensures front { self.new ≡ steps_of self.old (all_written count) }
+        ensures each { AreTellable self.old (all_written count) }
+        ensures told { self.new.ring.told ≡ None }
+        ensures ring { self.new ≡ record self.old { ring = self.new.ring } }
+    {
+        self.ends.tell_written(count);
+        self.turn = self.ends.turn();
+        self.key = Key::of(&self.ends.bus_ask());
+    }
+
+    /// These of the words that it asks for were read: as many single answers, one after another. A sector is told after
+    /// its last word.
+    pub fn tell_read(&mut self, words: &[u32])
+        requires part { HasRead (sector_part self.old) (length words.now) }
+        requires told { self.old.ring.told ≡ None }
+        ensures front { self.new ≡ steps_of self.old (all_read words.now) }
+        ensures each { AreTellable self.old (all_read words.now) }
+        ensures ring { self.new ≡ record self.old { ring = self.new.ring } }
+    {
+        self.ends.tell_read(words);
+        self.turn = self.ends.turn();
+        self.key = Key::of(&self.ends.bus_ask());
     }
 
     // Whether it asks for nothing but an event or a watch, whosever turn it is.
