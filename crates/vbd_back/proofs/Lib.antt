@@ -1,3 +1,4 @@
 mod Settling
 pub mod Turns
 mod Open
+mod Parts

@@ -3,3 +3,4 @@ pub mod Ask
 pub mod Step
 pub mod Turn
 pub mod Inside
+pub mod Part

@@ -9,6 +9,7 @@ ghost use Rattle.vbd_back.specs.Ask.{ask_of, IsAnswer};
 ghost use Rattle.vbd_back.specs.Step.{step_of, closes, is_plain};
 ghost use Rattle.vbd_back.specs.Turn.{turn_of};
 
+mod parts;
 mod ring;
 
 use crate::key::Key;

@@ -1,0 +1,13 @@
+use Rattle.std.proofs.Common.{subst}
+use Rattle.std.specs.Prelude.{IfSome}
+use Rattle.back_jobs.specs.Part.{AsksEach}
+use Rattle.vbd_back.specs.Inside.{view_of}
+use Rattle.vbd_back.specs.Part.{job_values, job_asked}
+use Rattle.vbd_back.specs.View.{View}
+use Rattle.vbd_back.proofs.Parts.{asks_ring}
+use Rattle.vbd_back.proofs.backend.Backend.sector_part.Goals as goal
+
+pub returns-clause-each : goal.returns-clause-each
+returns-clause-each c =
+    subst (λ (w : View). IfSome c.sector_part.result (λ part. AsksEach part (job_values w c.args.number) (job_asked w c.args.number))) c.self.view_is
+    (asks_ring (view_of c.self.inside) c.args.number (job_values (view_of c.self.inside) c.args.number) c.sector_part.result c.sector_part.ensures.each)
