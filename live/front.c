@@ -10,7 +10,7 @@
 enum { MOST = 512, DIRECT_SECTORS = 88 };
 
 static struct vbd_front front;
-static struct { bool busy; uint32_t id, left; struct vbd_submission of; } requests[MOST];
+static struct { bool busy, own; uint32_t id, left; struct vbd_submission of; } requests[MOST];
 static uint64_t moves, taken, answered, refusals, sectors, words_seen, suspends, odd_answers;
 static bool ready, closing, closed, gave_up;
 
@@ -23,7 +23,8 @@ static void odd(const char *what) {
 static void finish(uint64_t slot) {
     const struct vbd_submission *of = &requests[slot].of;
     for (uint32_t i = 0; i < of->count && of->op != VBD_OP_READ; i++)
-        filled_sector(of->sector + i, of->op == VBD_OP_DISCARD ? 0 : of->tag + i);
+        if (requests[slot].own) wrote_sector(of->sector + i, of->tag);
+        else filled_sector(of->sector + i, of->op == VBD_OP_DISCARD ? 0 : of->tag + i);
     if (of->op <= VBD_OP_BARRIER) sectors += of->count;
     requests[slot].busy = false;
     answered++;
@@ -42,12 +43,16 @@ static void sector_came(const struct vbd_front_told *told, uint64_t slot) {
     if (!--requests[slot].left) finish(slot);
 }
 
+static uint64_t slot_of(uint32_t id) {
+    uint64_t slot = 0;
+    while (slot < options.depth && !(requests[slot].busy && requests[slot].id == id)) slot++;
+    return slot;
+}
 static void take(uint32_t status, uint32_t kind) {
     struct vbd_front_told told;
-    uint64_t slot = 0;
     if (status == VBD_DONE) return;
     if (status != VBD_TOLD || !vbd_front_told(&front, &told)) die("status %u of an answer to ask %u of the front", status, kind);
-    while (slot < options.depth && !(requests[slot].busy && requests[slot].id == told.id)) slot++;
+    uint64_t slot = slot_of(told.id);
     if (told.kind <= VBD_SECTOR && slot == options.depth) die("the front tells of request %u, which isn't in flight", told.id);
     switch (told.kind) {
     case VBD_ANSWER: answer_came(&told, slot); break;
@@ -79,9 +84,29 @@ static void key(uint32_t kind) {
     }
 }
 
-/* One move of the front; false where it waits. */
+/* The words of a sector, each moved by itself: those that the front fills it with, or words of the program's own. */
+static void move_words(const struct vbd_front_sector_part *part) {
+    uint32_t words[SECTOR_WORDS], first = part->word % SECTOR_WORDS;
+    uint64_t slot = part->writes ? slot_of(part->id) : options.depth;
+    for (uint32_t i = 0; i < part->count; i++)
+        if (!part->writes) words[i] = load_word(part->frame, part->word + i);
+        else if (slot == options.depth) die("the front writes for request %u, which isn't in flight", part->id);
+        else if (!requests[slot].own) store_word(part->frame, part->word + i, part->value);
+        else store_word(part->frame, part->word + i, word_of(requests[slot].of.tag, requests[slot].of.sector + part->index, first + i));
+    moves += part->count;
+    if (part->writes) take(vbd_front_part_written(&front, part->count), VBD_WRITE);
+    else take(vbd_front_part_read(&front, words, part->count), VBD_READ);
+}
+
+/* One move of the front, or the rest of a sector; false where it waits. */
 static bool move(void) {
     struct vbd_front_ask ask;
+    struct vbd_front_sector_part part;
+    if (vbd_front_sector_part(&front, &part)) {
+        if (any(8) == 0) part.count = 1 + (uint32_t)any(part.count); /* fewer may be moved */
+        move_words(&part);
+        return true;
+    }
     if (vbd_front_ask(&front, &ask) != VBD_DONE || ask.kind == VBD_WAIT) return false;
     moves++;
     switch (ask.kind) {
@@ -110,6 +135,7 @@ static void draw(uint64_t slot) {
     of->count = of->op == VBD_OP_FLUSH ? 0 : 1 + (uint32_t)any(most);
     of->sector = of->op == VBD_OP_FLUSH ? 0 : slot * options.sectors_each + any(options.sectors_each - of->count + 1);
     of->tag = 1 + (uint32_t)any(UINT32_MAX);
+    requests[slot].own = (of->op == VBD_OP_WRITE || of->op == VBD_OP_BARRIER) && any(2);
 }
 
 /* Hands it requests while some are left. One that is refused for want of room is kept, and tried again once another is answered. */

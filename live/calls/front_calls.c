@@ -40,11 +40,14 @@ static void a_handle_without_a_front(void) {
     struct vbd_front_ask ask = {.kind = 99};
     struct vbd_front_told told = {.kind = 99};
     struct vbd_front_options wide = {5, 0, false};
+    struct vbd_front_sector_part part = {.count = 99};
     uint8_t bytes[80];
     uint32_t id = 99;
     HOLDS(vbd_front_ask(&front, &ask) == VBD_EMPTY && ask.kind == 99 && answered(VBD_OK, 0) == VBD_EMPTY && key("4") == VBD_EMPTY);
     HOLDS(vbd_front_path(&front, bytes, 80) == 0 && vbd_front_text(&front, bytes, 80) == 0 && !vbd_front_told(&front, &told) && told.kind == 99);
     HOLDS(submitted(VBD_OP_FLUSH, 0, 0, &id) == VBD_EMPTY && id == 99 && unfinished() == 99);
+    HOLDS(!vbd_front_sector_part(&front, &part) && part.count == 99 && vbd_front_part_written(&front, 0) == VBD_EMPTY);
+    HOLDS(vbd_front_part_read(&front, &id, 1) == VBD_EMPTY);
     HOLDS(vbd_front_close(&front) == VBD_EMPTY && vbd_front_suspend(&front) == VBD_EMPTY && vbd_front_new(&front, &wide) == VBD_OUT_OF_RANGE);
     vbd_front_free(&front);
 }
@@ -99,6 +102,55 @@ static void it_takes_and_refuses_requests(void) {
     HOLDS(vbd_front_suspend(&front) == VBD_DONE && unfinished() == 32 && submitted(VBD_OP_READ, 1, 0, &id) == VBD_NOT_READY);
 }
 
+static struct vbd_front_sector_part part_asked(void) {
+    struct vbd_front_sector_part part = {.count = 99};
+    HOLDS(vbd_front_sector_part(&front, &part));
+    return part;
+}
+
+/* Carries out what is asked on a memory of its own, until it waits or tells something. */
+static uint32_t memory[1018][1024];
+static uint32_t moved(void) {
+    uint32_t status = VBD_DONE;
+    for (int i = 0; i < 1000 && status == VBD_DONE; i++) {
+        struct vbd_front_ask ask = asked();
+        uint32_t *word = &memory[ask.frame][ask.word], seen = *word;
+        if (ask.kind == VBD_WAIT) break;
+        if (ask.kind == VBD_WRITE || (ask.kind == VBD_CAS && seen == ask.expected)) *word = ask.value;
+        status = answered(ask.kind == VBD_READ || ask.kind == VBD_CAS ? VBD_WORD : VBD_OK, seen);
+    }
+    return status;
+}
+
+/* The words of a sector that is written, and of one that is read, by two calls each. The back answers both by its ring. */
+static void it_moves_many_words_at_once(void) {
+    static const uint32_t responses[][3] = {{1, 0, VBD_OP_WRITE}, {2, 0, VBD_OP_READ}};
+    struct vbd_front_sector_part none = {.count = 99}, part;
+    struct vbd_front_told told;
+    uint32_t id, words[129] = {0};
+    HOLDS(!vbd_front_sector_part(&front, &none) && none.count == 99);
+    HOLDS(vbd_front_part_written(&front, 0) == VBD_NOT_ALLOWED && vbd_front_part_read(&front, words, 1) == VBD_NOT_ALLOWED);
+    HOLDS(submitted(VBD_OP_WRITE, 1, 5, &id) == VBD_DONE && submitted(VBD_OP_READ, 1, 6, &id) == VBD_DONE);
+    part = part_asked();
+    HOLDS(part.id == 1 && part.index == 0 && part.frame == 18 && part.word == 0 && part.count == 128 && part.value == 7 && part.writes == 1);
+    HOLDS(vbd_front_part_written(&front, 129) == VBD_NOT_ALLOWED && vbd_front_part_read(&front, words, 1) == VBD_NOT_ALLOWED);
+    HOLDS(vbd_front_part_written(&front, 127) == VBD_DONE && asked().word == 127 && part_asked().word == 127 && part_asked().count == 1);
+    HOLDS(vbd_front_part_written(&front, 1) == VBD_DONE && !vbd_front_sector_part(&front, &none) && none.count == 99);
+    HOLDS(moved() == VBD_DONE && asked().kind == VBD_WAIT);
+    for (int i = 0; i < 2; i++) memcpy(&memory[2][16 + 28 * i], responses[i], sizeof responses[i]);
+    memory[2][2] = 2;
+    HOLDS(answered(VBD_EVENT, 0) == VBD_DONE && moved() == VBD_TOLD && vbd_front_told(&front, &told) && told.kind == VBD_ANSWER && told.id == 1);
+    HOLDS(moved() == VBD_TOLD && vbd_front_part_read(&front, words, 1) == VBD_UNTOLD);
+    HOLDS(vbd_front_told(&front, &told) && told.kind == VBD_ANSWER && told.id == 2 && told.status == 0);
+    part = part_asked();
+    HOLDS(part.id == 2 && part.index == 0 && part.frame == 19 && part.word == 0 && part.count == 128 && part.value == 0 && part.writes == 0);
+    for (uint32_t i = 0; i < 129; i++) words[i] = 3 * i + 1;
+    HOLDS(vbd_front_part_written(&front, 1) == VBD_NOT_ALLOWED && vbd_front_part_read(&front, words, 129) == VBD_NOT_ALLOWED);
+    HOLDS(vbd_front_part_read(&front, words, 100) == VBD_DONE && asked().word == 100 && part_asked().word == 100 && part_asked().count == 28);
+    HOLDS(vbd_front_part_read(&front, words + 100, 28) == VBD_TOLD && vbd_front_told(&front, &told));
+    HOLDS(told.kind == VBD_SECTOR && told.id == 2 && told.index == 0 && !memcmp(told.words, words, sizeof told.words) && unfinished() == 0);
+}
+
 int main(void) {
     struct vbd_front_options options = {0, 0, false};
     a_handle_without_a_front();
@@ -107,6 +159,11 @@ int main(void) {
     it_connects();
     it_takes_and_refuses_requests();
     HOLDS(vbd_front_close(&front) == VBD_TOLD);
+    vbd_front_free(&front);
+    HOLDS(vbd_front_new(&front, &options) == VBD_DONE);
+    it_waits_for_its_back();
+    it_connects();
+    it_moves_many_words_at_once();
     vbd_front_free(&front);
     return wrong != 0;
 }

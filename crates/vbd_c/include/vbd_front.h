@@ -39,6 +39,13 @@ struct vbd_front_ask {
     uint32_t kind, frame, word, value, expected;
 };
 
+/* Words of a request's data that are asked for next, one after another: `count` of them, 1 to 128, from `word` of `frame` on,
+ * up to the last word of their sector, which is number `index` of request `id`. Where `writes` is 1 each is to be `value`;
+ * where it is 0 each is read, and `value` is 0. */
+struct vbd_front_sector_part {
+    uint32_t id, index, frame, word, count, value, writes;
+};
+
 /* A request. Sectors have 512 bytes; the words of sector `i` of a write or a barrier are all `tag + i`. */
 enum vbd_op { VBD_OP_READ, VBD_OP_WRITE, VBD_OP_BARRIER, VBD_OP_FLUSH, VBD_OP_DISCARD = 5 }; /* BLKIF_OP_* */
 struct vbd_submission {
@@ -93,6 +100,16 @@ size_t vbd_front_text(struct vbd_front *front, uint8_t *bytes, size_t count);
 uint32_t vbd_front_complete(struct vbd_front *front, const struct vbd_answer *answer);
 uint32_t vbd_front_key(struct vbd_front *front, const uint8_t *text, size_t count);
 uint32_t vbd_front_watched(struct vbd_front *front, const uint8_t *path, size_t count);
+
+/* The words of data that are asked for next; false, and nothing is written, where vbd_front_ask asks for something else. */
+bool vbd_front_sector_part(struct vbd_front *front, struct vbd_front_sector_part *part);
+
+/* Answers for the first `count` words of that part, that they were written or are these, as so many single answers: VBD_DONE
+ * or VBD_TOLD. VBD_NOT_ALLOWED where fewer are asked for or of the other kind, VBD_UNTOLD and VBD_EMPTY change nothing.
+ * A program with data of its own writes its own words at the places of a part that is written, in place of `value`, before it
+ * answers: the front never reads them again, and nothing that is proved of it speaks of their values. */
+uint32_t vbd_front_part_written(struct vbd_front *front, size_t count);
+uint32_t vbd_front_part_read(struct vbd_front *front, const uint32_t *words, size_t count);
 
 /* What is told, once; false, and nothing is written, where that is nothing. Each move tells one thing at most. */
 bool vbd_front_told(struct vbd_front *front, struct vbd_front_told *told);

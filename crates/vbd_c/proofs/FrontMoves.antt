@@ -51,7 +51,7 @@ pub refused_keeps : (v : View) (s : Submission) → IfErr (submit_of v.ring s).0
 refused_keeps v s = submit_parts (IsKept v) v.ring s (λ why. refl) (λ wish taken. tt)
 
 -- neither end has anything to tell
-both_quiet : (v : View) → has_told v ≡ false → (v.ring.told ≡ None) × (v.news ≡ None)
+pub both_quiet : (v : View) → has_told v ≡ false → (v.ring.told ≡ None) × (v.news ≡ None)
 both_quiet v quiet = by_options v.ring.told v.news quiet
   where
     by_options : {A B : Type 0} (a : Option A) (b : Option B) → (is_some a || is_some b) ≡ false → (a ≡ None) × (b ≡ None)

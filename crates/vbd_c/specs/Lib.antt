@@ -13,6 +13,7 @@ pub mod Owned
 pub mod FrontAsk
 pub mod FrontTold
 pub mod FrontMove
+pub mod FrontPart
 pub mod FrontHeld
 pub mod FrontOwned
 pub mod Submission

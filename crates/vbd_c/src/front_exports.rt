@@ -2,6 +2,9 @@
 ghost use Rattle.std.specs.Prelude.{◌≡◌, None, IfSome, is_some};
 ghost use Rattle.vbd_front.specs.View.{start_of};
 ghost use Rattle.vbd_front.specs.Ask.{ask_of, StaysInMemory};
+ghost use Rattle.vbd_front.specs.Step.{step_of};
+ghost use Rattle.vbd_front.specs.Part.{sector_part};
+ghost use Rattle.blk_front.specs.Part.{AsksEach, IsWithin};
 ghost use Rattle.vbd_c.specs.Status.{code_of};
 ghost use Rattle.vbd_c.specs.Answer.{front_answer_of};
 ghost use Rattle.vbd_c.specs.Submission.{submission_of};
@@ -11,11 +14,13 @@ ghost use Rattle.vbd_c.specs.FrontHeld.{asked, path_in, text_in, options_of, clo
 ghost use Rattle.vbd_c.specs.FrontHeld.{AnsweredAs, answered_in, status_in, key_answer, watch_answer};
 ghost use Rattle.vbd_c.specs.FrontHeld.{submitted_in, submit_status_in, number_in, told_in, told_numbers, heard_in};
 ghost use Rattle.vbd_c.specs.FrontHeld.{owed_in, suspended_in};
+ghost use Rattle.vbd_c.specs.FrontPart.{part_in, part_numbers, written_in, written_status_in, WrittenAs, read_in, read_status_in, ReadAs};
 
 use crate::answer::AnswerNumbers;
 use crate::bytes::{copy_text, short_text};
 use crate::front_ask::{FrontAskNumbers, path_of, text_of};
 use crate::front_handle::FrontHandle;
+use crate::front_part::SectorPartNumbers;
 use crate::front_told::{FrontToldNumbers, numbers_told};
 use crate::options::FrontOptions;
 use crate::owed::OwedNumbers;
@@ -142,6 +147,68 @@ pub extern "C" fn vbd_front_watched(alloc: Global, front: &mut FrontHandle, path
         }
         None => Status::OutOfRange.code(),
     }
+}
+
+/// What words of a request's data the front asks for next, up to the last word of their sector; false, and nothing is
+/// written, where it asks for none.
+#[unsafe(no_mangle)]
+pub extern "C" fn vbd_front_sector_part(
+    alloc: Global,
+    front: &mut FrontHandle,
+    part: &mut SectorPartNumbers,
+) -> bool
+    ensures held { front.new.place.held ≡ front.old.place.held }
+    ensures part { part.new ≡ part_numbers (part_in front.old.place.held) part.old }
+    ensures any { result ≡ is_some (part_in front.old.place.held) }
+    ensures asked { IfSome front.old.place.held (λ v. IfSome (sector_part v) (AsksEach ask_of step_of v)) }
+    ensures within { IfSome (part_in front.old.place.held) IsWithin }
+{
+    let Some(held) = front.take(alloc) else {
+        return false;
+    };
+    let asked = held.sector_part();
+    front.put(held);
+    match asked {
+        Some(asked) => {
+            *part = SectorPartNumbers::of(&asked);
+            true
+        }
+        None => false,
+    }
+}
+
+/// Answers that so many of the words that are written were: as many single answers.
+#[unsafe(no_mangle)]
+pub extern "C" fn vbd_front_part_written(
+    alloc: Global,
+    front: &mut FrontHandle,
+    count: usize,
+) -> u32
+    ensures held { front.new.place.held ≡ written_in front.old.place.held count }
+    ensures status { result ≡ code_of (written_status_in front.old.place.held count) }
+    ensures answered { WrittenAs front.old.place.held count front.new.place.held }
+{
+    let Some(mut held) = front.take(alloc) else {
+        return Status::Empty.code();
+    };
+    let status = held.part_written(count);
+    front.put(held);
+    status.code()
+}
+
+/// Answers with words that were read of those that are: as many single answers.
+#[unsafe(no_mangle)]
+pub extern "C" fn vbd_front_part_read(alloc: Global, front: &mut FrontHandle, words: &[u32]) -> u32
+    ensures held { front.new.place.held ≡ read_in front.old.place.held words.now }
+    ensures status { result ≡ code_of (read_status_in front.old.place.held words.now) }
+    ensures answered { ReadAs front.old.place.held words.now front.new.place.held }
+{
+    let Some(mut held) = front.take(alloc) else {
+        return Status::Empty.code();
+    };
+    let status = held.part_read(words);
+    front.put(held);
+    status.code()
 }
 
 /// What is to be told, once; false, and nothing is written, where that is nothing.

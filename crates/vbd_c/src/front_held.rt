@@ -1,15 +1,18 @@
 // A front that a program holds.
-ghost use Rattle.std.specs.Prelude.{◌≡◌, ◌⊎◌, None, IfOk, IfErr};
+ghost use Rattle.std.specs.Prelude.{◌≡◌, ◌⊎◌, None, IfOk, IfErr, IfSome, length};
 ghost use Rattle.blk_front.specs.Submit.{submit_of, unfinished, sectors_owed};
 ghost use Rattle.vbd_front.specs.View.{start_of, heard};
 ghost use Rattle.vbd_front.specs.Ask.{ask_of, StaysInMemory};
-ghost use Rattle.vbd_front.specs.Step.{suspended};
+ghost use Rattle.vbd_front.specs.Step.{step_of, suspended};
+ghost use Rattle.blk_front.specs.Part.{HasWritten, HasRead, all_written, all_read, AsksEach, IsWithin};
+ghost use Rattle.vbd_front.specs.Part.{sector_part};
+ghost use Rattle.vbd_c.specs.FrontPart.{part_written, written_status, part_read, read_status, IsMoved};
 ghost use Rattle.vbd_c.specs.FrontMove.{answered, IsAnswered, status_of, submitted, submit_status, closed, close_status};
 
 use crate::allowed::front_allows;
 use crate::status::Status;
 use blk_base::{Config, Endpoint, FrontAnswer, FrontAsk, OutOfMemory, Refusal, Submission};
-use blk_front::Told;
+use blk_front::{SectorPart, Told};
 use std::alloc::Global;
 use std::marker::Model;
 use vbd_front::Frontend;
@@ -69,6 +72,58 @@ impl HeldFront {
             Status::Told
         } else {
             Status::Done
+        }
+    }
+
+    /// The words of a request's data that the front asks for next, up to the last word of their sector.
+    pub fn sector_part(&self) -> Option<SectorPart>
+        ensures value { result ≡ sector_part self.now }
+        ensures asked { IfSome result (AsksEach ask_of step_of self.now) }
+        ensures within { IfSome result IsWithin }
+    {
+        self.front.sector_part()
+    }
+
+    /// Answers that so many of those words were written. `Done` where that is as many single answers; `NotAllowed` exactly
+    /// where fewer are asked for, and `Untold` where what is to be told wasn't taken yet: then nothing changes.
+    #[tactic(auto, using(crate::proofs::FrontParts::all_taken))]
+    pub fn part_written(&mut self, count: usize) -> Status
+        ensures held { self.new ≡ part_written self.old count }
+        ensures status { result ≡ written_status self.old count }
+        ensures answered { IsMoved (HasWritten (sector_part self.old) count) self.old (all_written count) self.new }
+    {
+        if self.front.has_told() {
+            return Status::Untold;
+        }
+        match self.front.sector_part() {
+            Some(part) if part.value.is_some() && count <= part.count as usize => {
+                self.front.tell_written(count as u32);
+                Status::Done
+            }
+            _ => Status::NotAllowed,
+        }
+    }
+
+    /// Answers that these of those words were read, likewise; `Told` where they end a sector.
+    #[tactic(auto, using(crate::proofs::FrontParts::all_taken))]
+    pub fn part_read(&mut self, words: &[u32]) -> Status
+        ensures held { self.new ≡ part_read self.old words.now }
+        ensures status { result ≡ read_status self.old words.now }
+        ensures answered { IsMoved (HasRead (sector_part self.old) (length words.now)) self.old (all_read words.now) self.new }
+    {
+        if self.front.has_told() {
+            return Status::Untold;
+        }
+        match self.front.sector_part() {
+            Some(part) if part.value.is_none() && words.len() <= part.count as usize => {
+                self.front.tell_read(words);
+                if self.front.has_told() {
+                    Status::Told
+                } else {
+                    Status::Done
+                }
+            }
+            _ => Status::NotAllowed,
         }
     }
 

@@ -12,6 +12,7 @@ mod front_ask;
 mod front_exports;
 mod front_handle;
 mod front_held;
+mod front_part;
 mod front_place;
 mod front_told;
 mod halt;
