@@ -7,6 +7,7 @@ mod guest;
 mod indirect;
 mod kept;
 mod long;
+mod parts;
 mod reads;
 mod script;
 mod shapes;

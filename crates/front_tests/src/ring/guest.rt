@@ -9,7 +9,7 @@ use crate::expected::{holds, same};
 use blk_base::{
     Config, Endpoint, FrontAnswer, FrontAsk, OutOfMemory, Refusal, SectorCount, Submission,
 };
-use blk_front::{Front, FrontState, Offers, Told};
+use blk_front::{Front, FrontState, Offers, SectorPart, Told};
 use std::alloc::Global;
 use std::process::Abort;
 
@@ -35,6 +35,22 @@ impl Memory {
         if let Some(old) = self.words.get_mut(frame as usize * 1024 + word as usize) {
             *old = value;
         }
+    }
+
+    // Writes so many words of a frame from this one on: each is this value.
+    fn fill(&mut self, frame: u32, first: u32, count: u32, value: u32) {
+        for n in 0..count {
+            self.write(frame, first.wrapping_add(n), value);
+        }
+    }
+
+    // The 128 words of a frame from this one on.
+    fn sector(&self, frame: u32, first: u32) -> [u32; 128] {
+        let mut words = [0; 128];
+        for n in 0..128 {
+            words[n] = self.read(frame, first.wrapping_add(n as u32));
+        }
+        words
     }
 
     // Does what is asked; `None` for what this front never asks.
@@ -191,6 +207,36 @@ impl Guest {
 
     pub fn write(&mut self, frame: u32, word: u32, value: u32) {
         self.memory.write(frame, word, value);
+    }
+
+    /// The words of data that it asks for next.
+    pub fn part(&self) -> Option<SectorPart> {
+        self.front.sector_part()
+    }
+
+    /// Writes so many of those words, and says so at once. What was told is taken before.
+    pub fn writes_part(&mut self, rt: &impl Abort, count: u32) {
+        same(rt, self.front.take_told(), None);
+        match self.front.sector_part() {
+            Some(part) if part.value.is_some() && count <= part.count => {
+                let value = part.value.unwrap_or(0);
+                self.memory.fill(part.frame, part.word, count, value);
+                self.front.tell_written(count);
+            }
+            _ => holds(rt, false),
+        }
+    }
+
+    /// Reads so many of those words, and says so at once, likewise.
+    pub fn reads_part(&mut self, rt: &impl Abort, count: u32) {
+        same(rt, self.front.take_told(), None);
+        match self.front.sector_part() {
+            Some(part) if part.value.is_none() && count <= part.count => {
+                let words = self.memory.sector(part.frame, part.word);
+                self.front.tell_read(&words[..count as usize]);
+            }
+            _ => holds(rt, false),
+        }
     }
 
     /// Does what is asked next. What was told is taken before. A `Wait` is answered by an event.

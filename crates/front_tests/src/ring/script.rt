@@ -3,7 +3,7 @@
 use super::guest::Guest;
 use crate::expected::{holds, same};
 use blk_base::{Abi, Config, Refusal, Status};
-use blk_front::{FrontState, Offers, Told};
+use blk_front::{FrontState, Offers, SectorPart, Told};
 use std::alloc::Global;
 use std::process::Abort;
 
@@ -108,6 +108,12 @@ pub enum Step<'a> {
     Owed(u32, u64),
     /// What is asked by `data_asked`.
     DataAsked(Option<Ask>),
+    /// The words of data that are asked for next.
+    Part(Option<SectorPart>),
+    /// So many of them are written at once, and nothing is told.
+    WritesPart(u32),
+    /// So many of them are read at once. What is told then isn't taken.
+    ReadsPart(u32),
     /// A frame has this value at a word.
     Word(u32, u32, u32),
     /// This value is written to a frame's word.
@@ -299,6 +305,11 @@ fn reads(rt: &impl Abort, guest: &mut Guest, frame: u32, count: u32, owed: (u32,
     }
 }
 
+fn writes_part(rt: &impl Abort, guest: &mut Guest, count: u32) {
+    guest.writes_part(rt, count);
+    same(rt, guest.take_told(), None);
+}
+
 fn told_soon(rt: &impl Abort, guest: &mut Guest, wanted: News) {
     for _ in 0..20 {
         let news = one_move(rt, guest);
@@ -373,6 +384,9 @@ fn takes(rt: &impl Abort, guest: &mut Guest, step: &Step) {
         Step::IsConnected(wanted) => same(rt, guest.is_connected(), wanted),
         Step::Owed(count, sectors) => same(rt, guest.owed(), (count, sectors)),
         Step::DataAsked(wanted) => guest.asks_data(rt, wanted),
+        Step::Part(wanted) => same(rt, guest.part(), wanted),
+        Step::WritesPart(count) => writes_part(rt, guest, count),
+        Step::ReadsPart(count) => guest.reads_part(rt, count),
         Step::Word(frame, word, value) => same(rt, guest.read(frame, word), value),
         Step::Puts(frame, word, value) => guest.write(frame, word, value),
         Step::Lays(data, frame, count) => lays(guest, data, frame, count),
