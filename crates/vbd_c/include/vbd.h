@@ -73,6 +73,14 @@ struct vbd_ask {
     uint64_t mapping, sector, sectors;
 };
 
+/* Words that a job has read or written next, one after another through one mapping, up to its sector's last one: `count` of them,
+ * 1 to 128, from `word` on, below 1024. `writes` says that they are written, as VBD_WRITE asks for one; else VBD_READ does. */
+struct vbd_part {
+    uint64_t mapping;
+    uint32_t gref, word, count;
+    bool writes;
+};
+
 enum vbd_answer_kind {
     VBD_OK,
     VBD_EVENT,
@@ -129,6 +137,16 @@ uint32_t vbd_back_mapped(struct vbd_back *back, uint64_t job, uint64_t mapping);
 uint32_t vbd_back_key(struct vbd_back *back, const uint8_t *text, size_t count);
 uint32_t vbd_back_watched(struct vbd_back *back, const uint8_t *path, size_t count);
 uint32_t vbd_back_sector(struct vbd_back *back, uint64_t job, const uint32_t *words, size_t count);
+
+/* The words that a job has read or written next; false, and nothing is written, where it asks for none. vbd_back_part_words copies
+ * what is to be written to them, as many as there is room for, and answers how many. */
+bool vbd_back_part(struct vbd_back *back, uint64_t job, struct vbd_part *part);
+size_t vbd_back_part_words(struct vbd_back *back, uint64_t job, uint32_t *words, size_t count);
+
+/* The first `count` of them were read, or written: that many of vbd_back_complete in one. VBD_DONE, or VBD_NOT_ALLOWED where that
+ * isn't asked for, VBD_UNTOLD or VBD_EMPTY. A program moves each word by itself, as for a single ask, and in their order. */
+uint32_t vbd_back_part_read(struct vbd_back *back, uint64_t job, const uint32_t *words, size_t count);
+uint32_t vbd_back_part_written(struct vbd_back *back, uint64_t job, size_t count);
 
 /* The least number above `after` of a job that is held; 0: none. At most 512 are held. */
 uint64_t vbd_back_next_job(struct vbd_back *back, uint64_t after);

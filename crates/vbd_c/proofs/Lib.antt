@@ -5,3 +5,4 @@ pub mod FrontMoves
 pub mod FrontParts
 mod AsBox
 mod AsFrontBox
+pub mod PartMoves

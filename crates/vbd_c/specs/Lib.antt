@@ -17,3 +17,4 @@ pub mod FrontPart
 pub mod FrontHeld
 pub mod FrontOwned
 pub mod Submission
+pub mod Part

@@ -9,6 +9,8 @@ ghost use Rattle.vbd_c.specs.Move.{ask_of, Stays, IsAllowed, IsAnswered, allows,
 ghost use Rattle.vbd_c.specs.Answer.{mapping_for, answered_by, status_by};
 ghost use Rattle.vbd_c.specs.Held.{SuspendedAs, AnsweredAs};
 
+mod parts;
+
 use crate::allowed::{back_allows, job_allows};
 use crate::answer::mapping_for;
 use crate::status::Status;

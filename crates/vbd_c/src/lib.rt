@@ -20,6 +20,8 @@ mod handle;
 mod held;
 mod options;
 mod owed;
+mod part;
+mod part_exports;
 mod parts;
 mod place;
 mod status;
