@@ -85,7 +85,7 @@ static void key(uint32_t kind) {
 }
 
 /* The words of a sector, each moved by itself: those that the front fills it with, or words of the program's own. */
-static void move_words(const struct vbd_front_sector_part *part) {
+static void move_words(const struct vbd_front_part *part) {
     uint32_t words[SECTOR_WORDS], first = part->word % SECTOR_WORDS;
     uint64_t slot = part->writes ? slot_of(part->id) : options.depth;
     for (uint32_t i = 0; i < part->count; i++)
@@ -101,8 +101,8 @@ static void move_words(const struct vbd_front_sector_part *part) {
 /* One move of the front, or the rest of a sector; false where it waits. */
 static bool move(void) {
     struct vbd_front_ask ask;
-    struct vbd_front_sector_part part;
-    if (vbd_front_sector_part(&front, &part)) {
+    struct vbd_front_part part;
+    if (vbd_front_part(&front, &part)) {
         if (any(8) == 0) part.count = 1 + (uint32_t)any(part.count); /* fewer may be moved */
         move_words(&part);
         return true;

@@ -40,13 +40,13 @@ static void a_handle_without_a_front(void) {
     struct vbd_front_ask ask = {.kind = 99};
     struct vbd_front_told told = {.kind = 99};
     struct vbd_front_options wide = {5, 0, false};
-    struct vbd_front_sector_part part = {.count = 99};
+    struct vbd_front_part part = {.count = 99};
     uint8_t bytes[80];
     uint32_t id = 99;
     HOLDS(vbd_front_ask(&front, &ask) == VBD_EMPTY && ask.kind == 99 && answered(VBD_OK, 0) == VBD_EMPTY && key("4") == VBD_EMPTY);
     HOLDS(vbd_front_path(&front, bytes, 80) == 0 && vbd_front_text(&front, bytes, 80) == 0 && !vbd_front_told(&front, &told) && told.kind == 99);
     HOLDS(submitted(VBD_OP_FLUSH, 0, 0, &id) == VBD_EMPTY && id == 99 && unfinished() == 99);
-    HOLDS(!vbd_front_sector_part(&front, &part) && part.count == 99 && vbd_front_part_written(&front, 0) == VBD_EMPTY);
+    HOLDS(!vbd_front_part(&front, &part) && part.count == 99 && vbd_front_part_written(&front, 0) == VBD_EMPTY);
     HOLDS(vbd_front_part_read(&front, &id, 1) == VBD_EMPTY);
     HOLDS(vbd_front_close(&front) == VBD_EMPTY && vbd_front_suspend(&front) == VBD_EMPTY && vbd_front_new(&front, &wide) == VBD_OUT_OF_RANGE);
     vbd_front_free(&front);
@@ -102,9 +102,9 @@ static void it_takes_and_refuses_requests(void) {
     HOLDS(vbd_front_suspend(&front) == VBD_DONE && unfinished() == 32 && submitted(VBD_OP_READ, 1, 0, &id) == VBD_NOT_READY);
 }
 
-static struct vbd_front_sector_part part_asked(void) {
-    struct vbd_front_sector_part part = {.count = 99};
-    HOLDS(vbd_front_sector_part(&front, &part));
+static struct vbd_front_part part_asked(void) {
+    struct vbd_front_part part = {.count = 99};
+    HOLDS(vbd_front_part(&front, &part));
     return part;
 }
 
@@ -125,17 +125,17 @@ static uint32_t moved(void) {
 /* The words of a sector that is written, and of one that is read, by two calls each. The back answers both by its ring. */
 static void it_moves_many_words_at_once(void) {
     static const uint32_t responses[][3] = {{1, 0, VBD_OP_WRITE}, {2, 0, VBD_OP_READ}};
-    struct vbd_front_sector_part none = {.count = 99}, part;
+    struct vbd_front_part none = {.count = 99}, part;
     struct vbd_front_told told;
     uint32_t id, words[129] = {0};
-    HOLDS(!vbd_front_sector_part(&front, &none) && none.count == 99);
+    HOLDS(!vbd_front_part(&front, &none) && none.count == 99);
     HOLDS(vbd_front_part_written(&front, 0) == VBD_NOT_ALLOWED && vbd_front_part_read(&front, words, 1) == VBD_NOT_ALLOWED);
     HOLDS(submitted(VBD_OP_WRITE, 1, 5, &id) == VBD_DONE && submitted(VBD_OP_READ, 1, 6, &id) == VBD_DONE);
     part = part_asked();
     HOLDS(part.id == 1 && part.index == 0 && part.frame == 18 && part.word == 0 && part.count == 128 && part.value == 7 && part.writes == 1);
     HOLDS(vbd_front_part_written(&front, 129) == VBD_NOT_ALLOWED && vbd_front_part_read(&front, words, 1) == VBD_NOT_ALLOWED);
     HOLDS(vbd_front_part_written(&front, 127) == VBD_DONE && asked().word == 127 && part_asked().word == 127 && part_asked().count == 1);
-    HOLDS(vbd_front_part_written(&front, 1) == VBD_DONE && !vbd_front_sector_part(&front, &none) && none.count == 99);
+    HOLDS(vbd_front_part_written(&front, 1) == VBD_DONE && !vbd_front_part(&front, &none) && none.count == 99);
     HOLDS(moved() == VBD_DONE && asked().kind == VBD_WAIT);
     for (int i = 0; i < 2; i++) memcpy(&memory[2][16 + 28 * i], responses[i], sizeof responses[i]);
     memory[2][2] = 2;

@@ -42,7 +42,7 @@ struct vbd_front_ask {
 /* Words of a request's data that are asked for next, one after another: `count` of them, 1 to 128, from `word` of `frame` on,
  * up to the last word of their sector, which is number `index` of request `id`. Where `writes` is 1 each is to be `value`;
  * where it is 0 each is read, and `value` is 0. */
-struct vbd_front_sector_part {
+struct vbd_front_part {
     uint32_t id, index, frame, word, count, value, writes;
 };
 
@@ -102,7 +102,7 @@ uint32_t vbd_front_key(struct vbd_front *front, const uint8_t *text, size_t coun
 uint32_t vbd_front_watched(struct vbd_front *front, const uint8_t *path, size_t count);
 
 /* The words of data that are asked for next; false, and nothing is written, where vbd_front_ask asks for something else. */
-bool vbd_front_sector_part(struct vbd_front *front, struct vbd_front_sector_part *part);
+bool vbd_front_part(struct vbd_front *front, struct vbd_front_part *part);
 
 /* Answers for the first `count` words of that part, that they were written or are these, as so many single answers: VBD_DONE
  * or VBD_TOLD. VBD_NOT_ALLOWED where fewer are asked for or of the other kind, VBD_UNTOLD and VBD_EMPTY change nothing.

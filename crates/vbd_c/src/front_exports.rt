@@ -152,7 +152,7 @@ pub extern "C" fn vbd_front_watched(alloc: Global, front: &mut FrontHandle, path
 /// What words of a request's data the front asks for next, up to the last word of their sector; false, and nothing is
 /// written, where it asks for none.
 #[unsafe(no_mangle)]
-pub extern "C" fn vbd_front_sector_part(
+pub extern "C" fn vbd_front_part(
     alloc: Global,
     front: &mut FrontHandle,
     part: &mut SectorPartNumbers,
