@@ -1,5 +1,5 @@
-//! Tests of the back's end of the ring and its jobs, of the negotiation, of the frontend and of the
-//! backend, by their public calls.
+//! Tests of the back's end of the ring and its jobs, of the negotiation, of the frontend, of the
+//! backend and of a host's rounds, by their public calls.
 #![tactic(auto)]
 
 #[cfg(test)]
@@ -14,5 +14,7 @@ mod bus;
 mod expected;
 #[cfg(test)]
 mod frontend;
+#[cfg(test)]
+mod host;
 #[cfg(test)]
 mod jobs;
