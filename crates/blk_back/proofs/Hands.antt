@@ -30,7 +30,7 @@ use Rattle.blk_back.specs.View.{View, no_page, page_of, slot_page}
 use Rattle.blk_back.specs.Ask.{ask_at, ask_of, loop_ask, reply_ask, entry_ask, index_ask, unmap_ask, next_reply, IsAnswer, StaysInPage}
 use Rattle.blk_back.specs.Step.{unmapping_next, abort, unbound, bound, other_pages, mapped, attaches, may_attach, attached, halts_at, may_halt, halts, overrun, looked, loop_word, loop_step, fetched, fetch_step, next_number, step_at, step_of, job_ask_of, job_step, next_job_of}
 use Rattle.blk_back.specs.Sound.{IsMapped, IsPlaced, AreWritable, IsSound}
-use Rattle.blk_back.specs.Hands.{aborted, hands_at, hands_of}
+use Rattle.blk_back.specs.Hands.{aborted, hands_at, hands_of, most_held}
 use Rattle.blk_back.proofs.Slots.{slot_within, response_fits}
 
 -- what is held while nothing is being unmapped
@@ -257,7 +257,7 @@ few_aborted (stage.Abort m) = omega arith
 few_aborted s = omega arith
 
 -- one in each job's hand, the pages, and one that is being unmapped
-pub few_hands : (v : View) → IsSound v → length (hands_of v) ≤ 529
+pub few_hands : (v : View) → IsSound v → length (hands_of v) ≤ most_held
 few_hands v sound =
     let given = few_aborted v.stage in let pages = sound.few_pages in let few = sound.few in let hands = few_in_hands v.jobs.works in
     rw (length-append (aborted v.stage) (hands_in v.jobs.works ++ v.pages), length-append (hands_in v.jobs.works) v.pages) (omega arith)

@@ -28,7 +28,7 @@ use Rattle.blk_back.specs.Ask.{ask_at, ask_of, loop_ask, entry_ask, index_ask, n
 use Rattle.blk_back.specs.Step.{overrun, looked, next_number, fetched, step_at}
 use Rattle.blk_back.specs.Keeping.{abort_keeping, overrun_keeping, looked_keeping, loop_word_keeping, loop_step_keeping, fetched_keeping, fetch_step_keeping, step_keeping_at, step_keeping}
 use Rattle.blk_back.specs.Sound.{IsSound}
-use Rattle.blk_back.specs.Hands.{aborted, hands_of, all_hands_at, all_hands_of}
+use Rattle.blk_back.specs.Hands.{aborted, hands_of, all_hands_at, all_hands_of, most_with_kept}
 use Rattle.blk_back.proofs.Hands.{given_apart, hands_after_at, few_aborted, step_kept_at}
 
 -- what is held while nothing is being unmapped
@@ -148,7 +148,7 @@ few_values [] = refl
 few_values (e ∷ es) = ap suc (few_values es)
 
 -- one in each job's hand, the pages, one that is being unmapped, and those that are kept
-pub few_all_hands : (v : View) → IsSound v → length (all_hands_of v) ≤ 1529
+pub few_all_hands : (v : View) → IsSound v → length (all_hands_of v) ≤ most_with_kept
 few_all_hands v sound =
     let given = few_aborted v.stage in let pages = sound.few_pages in let few = sound.few in let hands = few_in_hands v.jobs.works in
     let kept = few_values v.jobs.kept.entries in let within = sound.few_kept in let cap = sound.cap in

@@ -1,5 +1,5 @@
 -- The mappings that the back and its jobs hold (`grant_table.h`).
-use Rattle.std.specs.Prelude.{List, [], ◌∷◌, ◌++◌}
+use Rattle.std.specs.Prelude.{ℕ, List, [], ◌∷◌, ◌++◌}
 use Rattle.blk_base.specs.declared.parts.Mapping.{Mapping}
 use Rattle.back_jobs.specs.Hands.{hands_in}
 use Rattle.back_jobs.specs.Keeping.{all_hands}
@@ -25,3 +25,11 @@ all_hands_at s v = aborted s ++ (all_hands v.jobs ++ v.pages)
 
 abbrev pub all_hands_of : View → List Mapping
 all_hands_of v = all_hands_at v.stage v
+
+-- so many are held at most: one in the hand of each of 512 jobs, the ring's 16 pages, and the one that is being unmapped
+abbrev pub most_held : ℕ
+most_held = 529
+
+-- and so many with the 1000 that may be kept
+abbrev pub most_with_kept : ℕ
+most_with_kept = 1529

@@ -4,7 +4,7 @@ ghost use Rattle.ring_words.specs.Shape.{entry_words_of};
 ghost use Rattle.blk_back.specs.View.{start_of, new_of, page_of, slot_page, slot_word};
 ghost use Rattle.blk_back.specs.Ask.{ask_of, loop_ask, reply_ask, entry_ask, index_ask, unmap_ask, next_gref, next_reply, response_word, IsAnswer, StaysInPage};
 ghost use Rattle.blk_back.specs.Keeping.{step_keeping};
-ghost use Rattle.blk_back.specs.Hands.{hands_of, all_hands_of};
+ghost use Rattle.blk_back.specs.Hands.{hands_of, all_hands_of, most_held, most_with_kept};
 ghost use Rattle.blk_base.specs.declared.parts.Mode.TheVariants.{ReadWrite};
 ghost use Rattle.back_jobs.specs.Hands.{Names, HandsKeep};
 ghost use Rattle.back_jobs.specs.Jobs.{ask_job, next_after};
@@ -272,8 +272,8 @@ impl<'a> Endpoint<'a> for Back {
         ensures value { result ≡ ask_of self.now }
         ensures within { StaysInPage result }
         ensures names { Names (hands_of self.now) result }
-        ensures few { length (hands_of self.now) ≤ 529 }
-        ensures few_kept { length (all_hands_of self.now) ≤ 1529 }
+        ensures few { length (hands_of self.now) ≤ most_held }
+        ensures few_kept { length (all_hands_of self.now) ≤ most_with_kept }
     {
         // Opens the back, for what is true of it at every moment.
         let _ = &self.ring.port;

@@ -27,7 +27,7 @@ use Rattle.hypervisor.specs.Act.{has_to_take, back_watched}
 use Rattle.hypervisor.specs.Disk.{DiskDoes}
 use Rattle.hypervisor.specs.May.{FrontMay, BackMay, FrontTakesMemory, BackTakesMemory}
 use Rattle.back_jobs.specs.Hands.{Names}
-use Rattle.blk_back.specs.Hands.{hands_of}
+use Rattle.blk_back.specs.Hands.{hands_of, most_held}
 use Rattle.blk_back.specs.declared.told.BackTold.{BackTold}
 use Rattle.xenbus_state.specs.FrontView.{FrontView}
 use Rattle.xenbus_state.specs.declared.front.FrontNews.{FrontNews}
@@ -345,7 +345,7 @@ front_lacks w ask u c r asked takes same = rw same (goes_lacking (Is (FrontMoves
 pub back_lacks : (w : World) (ask : BackAsk) (u : Hypervisor) (c d : DiskSeen) (r : RecorderSeen) → ask ≡ back.ask_of (backend_of w) → BackTakesMemory ask → u ≡ w.rings.under → d ≡ c → Goes (Is (BackMoves ∷ [])) (Is (BackMoves ∷ [])) 41 (Err OutOfMemory) (moment w c r) (moment (record { rings = record { front = w.rings.front; back = w.rings.back; under = u }; front = w.front; back = w.back }) d r)
 back_lacks w ask u c d r asked takes same untouched = rw (same, untouched) (goes_lacking (Is (BackMoves ∷ [])) (Is (BackMoves ∷ [])) 41 BackMoves (moment w c r) (moment w c r) refl (subst BackTakesMemory asked takes) refl refl refl)
 
-pub back_asked_may : (w v : World) (ask : BackAsk) (attached : Option ℕ) → w ≡ v → IsFit w → ask ≡ back.ask_of (backend_of w) → Names (hands_of w.rings.back) ask → length (hands_of w.rings.back) ≤ 529 → attached ≡ Some v.rings.back.jobs.info.sectors → mappings_of v + 41 < 2 ^ 64 → BackMay w.rings.under attached ask
+pub back_asked_may : (w v : World) (ask : BackAsk) (attached : Option ℕ) → w ≡ v → IsFit w → ask ≡ back.ask_of (backend_of w) → Names (hands_of w.rings.back) ask → length (hands_of w.rings.back) ≤ most_held → attached ≡ Some v.rings.back.jobs.info.sectors → mappings_of v + 41 < 2 ^ 64 → BackMay w.rings.under attached ask
 back_asked_may w v ask attached is fit asked names few disk left =
     let known : attached ≡ Some w.rings.back.jobs.info.sectors = disk ∙ sym (ap (λ (x : World). Some x.rings.back.jobs.info.sectors) is) in
     subst (λ (a : Option ℕ). BackMay w.rings.under a ask) (sym known)

@@ -29,7 +29,7 @@ use Rattle.blk_back.specs.declared.told.BackTold.{BackTold}
 use Rattle.blk_back.specs.View as back
 use Rattle.blk_back.specs.Ask as back_ends
 use Rattle.blk_back.specs.Step as back_step
-use Rattle.blk_back.specs.Hands.{hands_of}
+use Rattle.blk_back.specs.Hands.{hands_of, most_held}
 use Rattle.back_jobs.specs.Work as task
 use Rattle.back_jobs.specs.Hands.{Names}
 use Rattle.back_jobs.specs.Sound.{StaysInPageAndDisk}
@@ -173,7 +173,7 @@ job_needs_none w k ask same takes = job_needs (back_step.job_ask_of w.back k) (j
 one_left : (w v : World) → w ≡ v → v.under.grants.made + 1 < 2 ^ 64 → w.under.grants.made + 1 < 2 ^ 64
 one_left w v is left = subst (λ (x : World). x.under.grants.made + 1 < 2 ^ 64) (sym is) left
 
-pub job_asked_may : (w v : World) (k : ℕ) (ask : BackAsk) (attached : Option ℕ) → w ≡ v → IsSafe w → ask ≡ back_step.job_ask_of w.back k → Names (hands_of w.back) ask → StaysInPageAndDisk w.back.jobs.info.sectors ask → length (hands_of w.back) ≤ 529 → attached ≡ Some v.back.jobs.info.sectors → v.under.grants.made + 1 < 2 ^ 64 → BackMay w.under attached ask
+pub job_asked_may : (w v : World) (k : ℕ) (ask : BackAsk) (attached : Option ℕ) → w ≡ v → IsSafe w → ask ≡ back_step.job_ask_of w.back k → Names (hands_of w.back) ask → StaysInPageAndDisk w.back.jobs.info.sectors ask → length (hands_of w.back) ≤ most_held → attached ≡ Some v.back.jobs.info.sectors → v.under.grants.made + 1 < 2 ^ 64 → BackMay w.under attached ask
 job_asked_may w v k ask attached is safe same names within few disk left =
     let known : attached ≡ Some w.back.jobs.info.sectors = disk ∙ sym (ap (λ (x : World). let b : back.View = x.back in Some b.jobs.info.sectors) is) in
     subst (BackMay w.under attached) (sym same)

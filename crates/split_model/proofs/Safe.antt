@@ -32,7 +32,7 @@ use Rattle.blk_back.specs.View as back
 use Rattle.blk_back.specs.Ask as back_ends
 use Rattle.ring_words.specs.Shape.{Shape}
 use Rattle.blk_back.specs.Step.{attached, halts, step_of, job_step, job_ask_of}
-use Rattle.blk_back.specs.Hands.{hands_at, hands_of}
+use Rattle.blk_back.specs.Hands.{hands_at, hands_of, most_held}
 use Rattle.blk_back.proofs.Hands.{hands_after, halted_hands, job_hands_after, step_info}
 use Rattle.segment_list.specs.declared.verdict.DiskInfo.{DiskInfo}
 use Rattle.split_model.specs.World.{World, start_of, may_suspend, suspended}
@@ -208,11 +208,11 @@ front_may_at h ask own within = tt
 pub front_may : (w : World) → IsSafe w → front_ends.StaysInMemory (front_ends.ask_of w.front) → FrontMay w.under (front_ends.ask_of w.front)
 front_may w safe within = front_may_at w.under (front_ends.ask_of w.front) (fronts_at w.under.channels w.front.stage w.front safe.ported) within
 
-has_left : (table : GrantTable) (hands : List Mapping) → AreHeld table hands → table.made + 1 < 2 ^ 64 → length hands ≤ 529 → HasMappingLeft table
+has_left : (table : GrantTable) (hands : List Mapping) → AreHeld table hands → table.made + 1 < 2 ^ 64 → length hands ≤ most_held → HasMappingLeft table
 has_left table hands held made few = (made, let many = held.as_many in omega arith)
 
 -- what the back asks may be carried out
-back_may_at : (h : Hypervisor) (attached : Option ℕ) (hands : List Mapping) (ask : BackAsk) → IsBacks ask → AreHeld h.grants hands → Names hands ask → h.grants.made + 1 < 2 ^ 64 → length hands ≤ 529 → BackMay h attached ask
+back_may_at : (h : Hypervisor) (attached : Option ℕ) (hands : List Mapping) (ask : BackAsk) → IsBacks ask → AreHeld h.grants hands → Names hands ask → h.grants.made + 1 < 2 ^ 64 → length hands ≤ most_held → BackMay h attached ask
 back_may_at h attached hands (back_ask.Read m word) own held names made few = (All-contains (IsLive h.grants) hands m held.live names.0, names.1)
 back_may_at h attached hands (back_ask.Write m word value) own held names made few = (All-contains (IsLive h.grants) hands m held.live names.0, names.1, names.2)
 back_may_at h attached hands (back_ask.Map gref mode) own held names made few = has_left h.grants hands held made few
@@ -226,11 +226,11 @@ back_may_at h attached hands back_ask.Flush own held names made few = absurd own
 back_may_at h attached hands (back_ask.Trim sector count) own held names made few = absurd own
 back_may_at h attached hands ask own held names made few = tt
 
-pub back_may : (h : Hypervisor) (attached : Option ℕ) (hands : List Mapping) (v : back.View) → AreHeld h.grants hands → Names hands (back_ends.ask_of v) → h.grants.made + 1 < 2 ^ 64 → length hands ≤ 529 → BackMay h attached (back_ends.ask_of v)
+pub back_may : (h : Hypervisor) (attached : Option ℕ) (hands : List Mapping) (v : back.View) → AreHeld h.grants hands → Names hands (back_ends.ask_of v) → h.grants.made + 1 < 2 ^ 64 → length hands ≤ most_held → BackMay h attached (back_ends.ask_of v)
 back_may h attached hands v held names made few = back_may_at h attached hands (back_ends.ask_of v) (backs_of v) held names made few
 
 -- what a job asks may be carried out, with a disk of as many sectors as it knows
-job_may_at : (h : Hypervisor) (attached : Option ℕ) (sectors : ℕ) (hands : List Mapping) (ask : BackAsk) → IsJobs ask → AreHeld h.grants hands → Names hands ask → StaysInPageAndDisk sectors ask → attached ≡ Some sectors → h.grants.made + 1 < 2 ^ 64 → length hands ≤ 529 → BackMay h attached ask
+job_may_at : (h : Hypervisor) (attached : Option ℕ) (sectors : ℕ) (hands : List Mapping) (ask : BackAsk) → IsJobs ask → AreHeld h.grants hands → Names hands ask → StaysInPageAndDisk sectors ask → attached ≡ Some sectors → h.grants.made + 1 < 2 ^ 64 → length hands ≤ most_held → BackMay h attached ask
 job_may_at h attached sectors hands back_ask.Wait own held names within disk made few = tt
 job_may_at h attached sectors hands back_ask.Fence own held names within disk made few = absurd own
 job_may_at h attached sectors hands (back_ask.Read m word) own held names within disk made few = (All-contains (IsLive h.grants) hands m held.live names.0, names.1)
@@ -248,7 +248,7 @@ job_may_at h attached sectors hands (back_ask.DiskWrite sector words) own held n
 job_may_at h attached sectors hands back_ask.Flush own held names within disk made few = λ none. none-some sectors (sym none ∙ disk)
 job_may_at h attached sectors hands (back_ask.Trim sector count) own held names within disk made few = rw disk within
 
-pub job_may : (h : Hypervisor) (attached : Option ℕ) (sectors : ℕ) (hands : List Mapping) (v : back.View) (k : ℕ) → AreHeld h.grants hands → Names hands (job_ask_of v k) → StaysInPageAndDisk sectors (job_ask_of v k) → attached ≡ Some sectors → h.grants.made + 1 < 2 ^ 64 → length hands ≤ 529 → BackMay h attached (job_ask_of v k)
+pub job_may : (h : Hypervisor) (attached : Option ℕ) (sectors : ℕ) (hands : List Mapping) (v : back.View) (k : ℕ) → AreHeld h.grants hands → Names hands (job_ask_of v k) → StaysInPageAndDisk sectors (job_ask_of v k) → attached ≡ Some sectors → h.grants.made + 1 < 2 ^ 64 → length hands ≤ most_held → BackMay h attached (job_ask_of v k)
 job_may h attached sectors hands v k held names within disk made few = job_may_at h attached sectors hands (job_ask_of v k) (jobs_of v k) held names within disk made few
 
 safe_front_turn : (w : World) (act : Option FrontAct) → IsSafe w → front_turn w ≡ act → IsSafe (front_after w act)

@@ -12,7 +12,7 @@ ghost use Rattle.back_jobs.specs.Hands.{Names};
 ghost use Rattle.back_jobs.specs.Sound.{StaysInPageAndDisk};
 ghost use Rattle.blk_back.specs.Ask.{ask_of as back_ask};
 ghost use Rattle.blk_back.specs.Step.{job_ask_of};
-ghost use Rattle.blk_back.specs.Hands.{hands_of};
+ghost use Rattle.blk_back.specs.Hands.{hands_of, most_held};
 ghost use Rattle.split_model.specs.World.{World, start_of};
 ghost use Rattle.split_model.specs.Happening.{Happening, happens, after, lines_of};
 ghost use Rattle.split_model.specs.Safe.{IsSafe};
@@ -27,15 +27,15 @@ pub fn a_run_goes_on()
 /// The machine is safe at the start and stays so, whatever happens. While it is, what is asked may
 /// be carried out: by the front, a port, and each word of its memory; by the back and its jobs,
 /// each word through a mapping that they hold, and each sector of the disk as they know it; and a
-/// further mapping while they hold at most 529 and its number is below 2^64.
+/// further mapping while they hold no more than they may and its number is below 2^64.
 pub fn every_ask_may_be_carried_out()
     ensures start { (o : Options) → IsSafe (start_of o) }
     ensures kept { (w : World) (h : Happening) → IsSafe w → IsSafe (happens w h) }
     ensures after { (hs : List Happening) (w : World) → IsSafe w → IsSafe (after hs w) }
     ensures front { (w : World) → IsSafe w → StaysInMemory (front_ask w.front) → FrontMay w.under (front_ask w.front) }
     ensures back { (w : World) → IsSafe w → Names (hands_of w.back) (back_ask w.back) → w.under.grants.made + 1 < 2 ^ 64
-        → length (hands_of w.back) ≤ 529 → BackMay w.under (Some w.back.jobs.info.sectors) (back_ask w.back) }
+        → length (hands_of w.back) ≤ most_held → BackMay w.under (Some w.back.jobs.info.sectors) (back_ask w.back) }
     ensures job { (w : World) (number : ℕ) → IsSafe w → Names (hands_of w.back) (job_ask_of w.back number)
-        → StaysInPageAndDisk w.back.jobs.info.sectors (job_ask_of w.back number) → w.under.grants.made + 1 < 2 ^ 64 → length (hands_of w.back) ≤ 529
-        → BackMay w.under (Some w.back.jobs.info.sectors) (job_ask_of w.back number) }
+        → StaysInPageAndDisk w.back.jobs.info.sectors (job_ask_of w.back number) → w.under.grants.made + 1 < 2 ^ 64
+        → length (hands_of w.back) ≤ most_held → BackMay w.under (Some w.back.jobs.info.sectors) (job_ask_of w.back number) }
 {}

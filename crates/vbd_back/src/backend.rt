@@ -1,7 +1,7 @@
 // The backend.
 ghost use Rattle.std.specs.Prelude.{◌≡◌, ◌≤◌, IfOk, IsOk, None, true, length};
 ghost use Rattle.blk_back.specs.Ask.{StaysInPage};
-ghost use Rattle.blk_back.specs.Hands.{hands_of};
+ghost use Rattle.blk_back.specs.Hands.{hands_of, most_held};
 ghost use Rattle.back_jobs.specs.Hands.{Names, HandsAfter};
 ghost use Rattle.vbd_back.specs.declared.turn.Turn.TheVariants as turn;
 ghost use Rattle.vbd_back.specs.View.{start_of, offer, renewed};
@@ -130,7 +130,7 @@ impl<'a> Endpoint<'a> for Backend {
         ensures value { result ≡ ask_of self.now }
         ensures within { StaysInPage result }
         ensures names { Names (hands_of self.now.ring) result }
-        ensures few { length (hands_of self.now.ring) ≤ 529 }
+        ensures few { length (hands_of self.now.ring) ≤ most_held }
     {
         // Most moves are of the ring's end, once its port is bound.
         let ask = self.ring.ask();

@@ -2,7 +2,7 @@
 ghost use Rattle.std.specs.Prelude.{◌≡◌, ◌≤◌, None, IfSome, length};
 ghost use Rattle.std.specs.Option.{IsSomeAnd};
 ghost use Rattle.blk_back.specs.Ask.{ask_of, IsAnswer};
-ghost use Rattle.blk_back.specs.Hands.{hands_of};
+ghost use Rattle.blk_back.specs.Hands.{hands_of, most_held};
 ghost use Rattle.blk_back.specs.Keeping.{KeepsNone};
 ghost use Rattle.blk_back.specs.Step.{step_of, halts, attaches, job_ask_of, job_step};
 ghost use Rattle.blk_back.specs.Part.{job_part, job_values, job_steps, job_asked, JobMovesEach};
@@ -52,7 +52,7 @@ pub fn job_ask(ring: &Back, number: u64) -> BackAsk<'_>
     ensures value { result ≡ job_ask_of ring.now number }
     ensures within { StaysInPageAndDisk ring.now.jobs.info.sectors result }
     ensures names { Names (hands_of ring.now) result }
-    ensures few { length (hands_of ring.now) ≤ 529 }
+    ensures few { length (hands_of ring.now) ≤ most_held }
 {
     ring.job_ask(number)
 }

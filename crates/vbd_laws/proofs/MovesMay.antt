@@ -8,7 +8,7 @@ use Rattle.blk_base.specs.declared.ask.BackAnswer.{BackAnswer}
 use Rattle.hypervisor.specs.Hypervisor.{Hypervisor}
 use Rattle.hypervisor.specs.May.{FrontMay, BackMay}
 use Rattle.back_jobs.specs.Hands.{Names}
-use Rattle.blk_back.specs.Hands.{hands_of}
+use Rattle.blk_back.specs.Hands.{hands_of, most_held}
 use Rattle.xenbus_state.specs.declared.front.FrontBusAsk.{FrontBusAsk}
 use Rattle.xenbus_state.specs.declared.front.FrontBusAsk.TheVariants as front_bus
 use Rattle.xenbus_state.specs.declared.back.BackBusAsk.{BackBusAsk}
@@ -49,7 +49,7 @@ back_key_may h attached a = tt
 abbrev BackMays : World → List ring.Happening → BackAsk → (BackAnswer → back_view.View) → Type 0
 BackMays w does ask step = Names (hands_of w.rings.back) ask → BackMay w.rings.under (Some w.rings.back.jobs.info.sectors) ask
 
-pub back_asks_may : (w : World) → IsFit w → Names (hands_of w.rings.back) (back.ask_of (backend_of w)) → w.rings.under.grants.made + 1 < 2 ^ 64 → length (hands_of w.rings.back) ≤ 529
+pub back_asks_may : (w : World) → IsFit w → Names (hands_of w.rings.back) (back.ask_of (backend_of w)) → w.rings.under.grants.made + 1 < 2 ^ 64 → length (hands_of w.rings.back) ≤ most_held
     → BackMay w.rings.under (Some w.rings.back.jobs.info.sectors) (back.ask_of (backend_of w))
 back_asks_may w fit names made few =
     back_cases (BackMays w) w (λ says unattached named. back_key_may w.rings.under (Some w.rings.back.jobs.info.sectors) (back_asks w))

@@ -13,7 +13,7 @@ ghost use Rattle.schedule_text.specs.declared.line.Line.{Line};
 ghost use Rattle.hypervisor.specs.Act.{FrontAct, BackAct};
 ghost use Rattle.hypervisor.specs.May.{FrontMay, BackMay};
 ghost use Rattle.back_jobs.specs.Hands.{Names};
-ghost use Rattle.blk_back.specs.Hands.{hands_of};
+ghost use Rattle.blk_back.specs.Hands.{hands_of, most_held};
 ghost use Rattle.vbd_front.specs.Ask.{ask_of as front_ask, StaysInMemory};
 ghost use Rattle.vbd_back.specs.Ask.{ask_of as back_ask};
 ghost use Rattle.vbd_model.specs.World.{World, start_of, frontend_of, backend_of};
@@ -59,11 +59,11 @@ pub fn a_move_is_what_its_end_asks()
 
 /// While the machine is fit, what its ends ask may be carried out: by the front, a port, each word of
 /// its memory, and its keys; by the back, each word through a mapping that it holds, and its keys;
-/// and a further mapping while at most 529 are held and its number is below 2^64.
+/// and a further mapping while no more are held than may be and its number is below 2^64.
 pub fn every_ask_may_be_carried_out()
     ensures front { (w : World) → IsFit w → StaysInMemory (front_ask (frontend_of w)) → FrontMay w.rings.under (front_ask (frontend_of w)) }
     ensures back { (w : World) → IsFit w → Names (hands_of w.rings.back) (back_ask (backend_of w)) → w.rings.under.grants.made + 1 < 2 ^ 64
-        → length (hands_of w.rings.back) ≤ 529 → BackMay w.rings.under (Some w.rings.back.jobs.info.sectors) (back_ask (backend_of w)) }
+        → length (hands_of w.rings.back) ≤ most_held → BackMay w.rings.under (Some w.rings.back.jobs.info.sectors) (back_ask (backend_of w)) }
 {}
 
 /// Whatever a schedule makes happen is possible for the machine of the ring: each path and text of a

@@ -3,7 +3,7 @@ ghost use Rattle.std.specs.Prelude.{◌≡◌, ◌<◌, ◌≤◌, None, Some, I
 ghost use Rattle.blk_back.specs.Ask.{is_waiting, is_idle};
 ghost use Rattle.blk_back.specs.Step.{told_effect, next_job_of};
 ghost use Rattle.blk_back.specs.Keeping.{job_ask_keeping, job_step_keeping};
-ghost use Rattle.blk_back.specs.Hands.{hands_of, all_hands_of};
+ghost use Rattle.blk_back.specs.Hands.{hands_of, all_hands_of, most_held, most_with_kept};
 ghost use Rattle.back_jobs.specs.Work.{IsAnswer};
 ghost use Rattle.back_jobs.specs.Sound.{StaysInPageAndDisk};
 ghost use Rattle.back_jobs.specs.Hands.{Names, HandsKeep};
@@ -23,8 +23,8 @@ impl Back {
         ensures value { result ≡ job_ask_keeping self.now number }
         ensures within { StaysInPageAndDisk self.now.jobs.info.sectors result }
         ensures names { Names (hands_of self.now) result }
-        ensures few { length (hands_of self.now) ≤ 529 }
-        ensures few_kept { length (all_hands_of self.now) ≤ 1529 }
+        ensures few { length (hands_of self.now) ≤ most_held }
+        ensures few_kept { length (all_hands_of self.now) ≤ most_with_kept }
     {
         match self.halted {
             Some(_) => BackAsk::Wait,

@@ -1,6 +1,6 @@
 // What the backend passes on to its end of the ring, and whether it waits.
 ghost use Rattle.std.specs.Prelude.{◌≡◌, ◌<◌, ◌≤◌, None, IfSome, length};
-ghost use Rattle.blk_back.specs.Hands.{hands_of};
+ghost use Rattle.blk_back.specs.Hands.{hands_of, most_held};
 ghost use Rattle.back_jobs.specs.Work.{IsAnswer};
 ghost use Rattle.back_jobs.specs.Sound.{StaysInPageAndDisk};
 ghost use Rattle.back_jobs.specs.Hands.{Names, HandsAfter};
@@ -22,7 +22,7 @@ impl Backend {
         ensures value { result ≡ job_ask_of self.now number }
         ensures within { StaysInPageAndDisk self.now.ring.jobs.info.sectors result }
         ensures names { Names (hands_of self.now.ring) result }
-        ensures few { length (hands_of self.now.ring) ≤ 529 }
+        ensures few { length (hands_of self.now.ring) ≤ most_held }
     {
         plain::job_ask(&self.ring, number)
     }
