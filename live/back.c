@@ -68,9 +68,30 @@ static void disk(uint64_t job, const struct vbd_ask *ask) {
     answer(job, ask, well ? VBD_OK : VBD_FAILED, 0, 0);
 }
 
-/* One move of the back, where `job` is 0, or of a job; false where it waits. */
+/* The words of a sector that a job has read or written next, each moved by itself: all of them, or now and then fewer; false where
+ * it asks for none. */
+static bool move_part(uint64_t job) {
+    struct vbd_part part;
+    if (!vbd_back_part(&back, job, &part)) return false;
+    uint32_t words[SECTOR_WORDS], frame = mapped_frame(part.mapping, part.writes);
+    uint32_t count = any(4) ? part.count : 1 + (uint32_t)any(part.count), status;
+    if (part.writes) {
+        vbd_back_part_words(&back, job, words, count);
+        for (uint32_t i = 0; i < count; i++) store_word(frame, part.word + i, words[i]);
+        status = vbd_back_part_written(&back, job, count);
+    } else {
+        for (uint32_t i = 0; i < count; i++) words[i] = load_word(frame, part.word + i);
+        status = vbd_back_part_read(&back, job, words, count);
+    }
+    if (status != VBD_DONE) die("status %u of an answer to %u words", status, count);
+    moves += count;
+    return true;
+}
+
+/* One move of the back, where `job` is 0, or of a job, or words of a sector of its; false where it waits. */
 static bool move(uint64_t job) {
     struct vbd_ask ask;
+    if (job && move_part(job)) return true;
     if (vbd_back_ask(&back, job, &ask) != VBD_DONE || ask.kind == VBD_WAIT) return false;
     moves++;
     switch (ask.kind) {

@@ -36,6 +36,9 @@ static void a_handle_without_a_back(void) {
     HOLDS(vbd_back_path(&back, bytes, 80) == 0 && vbd_back_text(&back, bytes, 80) == 0 && vbd_back_halt_key(&back, bytes, 80) == 0);
     HOLDS(!vbd_back_told(&back, &told) && told.kind == 99 && !vbd_back_halted(&back, &halt) && halt.kind == 99);
     HOLDS(vbd_back_next_job(&back, 0) == 0 && vbd_back_close(&back) == VBD_EMPTY && vbd_back_suspend(&back, 0, true) == VBD_EMPTY);
+    struct vbd_part part = {.count = 99};
+    HOLDS(!vbd_back_part(&back, 1, &part) && part.count == 99 && vbd_back_part_words(&back, 1, words, 128) == 0);
+    HOLDS(vbd_back_part_read(&back, 1, words, 1) == VBD_EMPTY && vbd_back_part_written(&back, 1, 1) == VBD_EMPTY);
     HOLDS(vbd_back_new(&back, &wide) == VBD_OUT_OF_RANGE);
     vbd_back_free(&back);
 }
@@ -98,6 +101,61 @@ static void suspends_and_the_end(void) {
     vbd_back_free(&back);
 }
 
+/* A write of sector 3 from reference 9, and a read of sector 5 to the second sector of reference 10. */
+static void two_requests(void) {
+    static const uint32_t entries[56] = {
+        [0] = 1 | 1 << 8, [2] = 71, [4] = 3, [6] = 9, [28] = 1 << 8, [30] = 72, [32] = 5, [34] = 10, [35] = 1 | 1 << 8};
+    struct vbd_ask ask;
+    while ((ask = asked(0)).kind == VBD_SET_KEY) HOLDS(answered(0, VBD_OK, 0) == VBD_DONE);
+    HOLDS(ask.kind == VBD_READ && ask.word == 0 && answered(0, VBD_WORD, 2) == VBD_DONE);
+    while ((ask = asked(0)).kind == VBD_READ && ask.word >= 16) HOLDS(answered(0, VBD_WORD, entries[ask.word - 16]) == VBD_DONE);
+    HOLDS(vbd_back_next_job(&back, 0) == 1 && vbd_back_next_job(&back, 1) == 2 && vbd_back_next_job(&back, 2) == 0);
+}
+
+static struct vbd_part part_of(uint64_t job) {
+    struct vbd_part part;
+    memset(&part, 255, sizeof part);
+    HOLDS(vbd_back_part(&back, job, &part));
+    return part;
+}
+
+static void words_of_a_sector_that_is_written(void) {
+    struct vbd_part part = {.count = 99};
+    struct vbd_told told;
+    uint32_t words[129], sector[128];
+    for (uint32_t i = 0; i < 129; i++) words[i] = 1000 + i;
+    HOLDS(asked(1).kind == VBD_MAP && !vbd_back_part(&back, 1, &part) && part.count == 99 && !vbd_back_part(&back, 0, &part));
+    HOLDS(vbd_back_part_read(&back, 1, words, 1) == VBD_NOT_ALLOWED && vbd_back_mapped(&back, 1, 42) == VBD_DONE);
+    part = part_of(1);
+    HOLDS(part.mapping == 42 && part.gref == 9 && part.word == 0 && part.count == 128 && !part.writes);
+    HOLDS(vbd_back_part_read(&back, 1, words, 129) == VBD_NOT_ALLOWED && vbd_back_part_written(&back, 1, 1) == VBD_NOT_ALLOWED);
+    HOLDS(vbd_back_part_words(&back, 1, sector, 128) == 0 && vbd_back_part_read(&back, 0, words, 1) == VBD_NOT_ALLOWED);
+    HOLDS(vbd_back_part_read(&back, 1, words, 0) == VBD_DONE && vbd_back_part_read(&back, 1, words, 100) == VBD_DONE);
+    HOLDS(asked(1).kind == VBD_READ && asked(1).word == 100 && answered(1, VBD_WORD, words[100]) == VBD_DONE);
+    part = part_of(1);
+    HOLDS(part.word == 101 && part.count == 27 && vbd_back_part_read(&back, 1, words + 101, 27) == VBD_DONE);
+    HOLDS(asked(1).kind == VBD_DISK_WRITE && vbd_back_words(&back, 1, sector, 128) && !memcmp(sector, words, sizeof sector));
+    HOLDS(!vbd_back_part(&back, 1, &part) && answered(1, VBD_OK, 0) == VBD_TOLD);
+    HOLDS(vbd_back_part_read(&back, 1, words, 0) == VBD_UNTOLD && vbd_back_part_written(&back, 1, 0) == VBD_UNTOLD);
+    HOLDS(vbd_back_told(&back, &told) && told.kind == VBD_EFFECT && told.id == 71 && asked(1).kind == VBD_UNMAP);
+}
+
+static void words_of_a_sector_that_is_read(void) {
+    struct vbd_part part;
+    struct vbd_told told;
+    uint32_t words[128], copied[129] = {0};
+    for (uint32_t i = 0; i < 128; i++) words[i] = 2000 + i;
+    HOLDS(asked(2).kind == VBD_MAP && asked(2).writes && vbd_back_mapped(&back, 2, 43) == VBD_DONE && asked(2).kind == VBD_DISK_READ);
+    HOLDS(vbd_back_sector(&back, 2, words, 128) == VBD_TOLD && vbd_back_told(&back, &told) && told.id == 72);
+    part = part_of(2);
+    HOLDS(part.mapping == 43 && part.gref == 10 && part.word == 128 && part.count == 128 && part.writes);
+    HOLDS(vbd_back_part_words(&back, 2, copied, 129) == 128 && !memcmp(copied, words, sizeof words) && copied[128] == 0);
+    HOLDS(vbd_back_part_read(&back, 2, words, 1) == VBD_NOT_ALLOWED && vbd_back_part_written(&back, 2, 129) == VBD_NOT_ALLOWED);
+    HOLDS(vbd_back_part_written(&back, 2, 100) == VBD_DONE && asked(2).kind == VBD_WRITE && asked(2).value == words[100]);
+    HOLDS(vbd_back_part_words(&back, 2, copied, 20) == 20 && !memcmp(copied, words + 100, 20 * sizeof *words));
+    HOLDS(vbd_back_part_written(&back, 2, 28) == VBD_DONE && asked(2).kind == VBD_UNMAP && asked(2).mapping == 43);
+}
+
 int main(void) {
     struct vbd_options options = {8, 0, 0, false};
     a_handle_without_a_back();
@@ -106,5 +164,12 @@ int main(void) {
     a_front_that_connects();
     it_halts_where_the_front_overruns_its_ring();
     suspends_and_the_end();
+    HOLDS(vbd_back_new(&back, &options) == VBD_DONE);
+    what_a_back_publishes();
+    a_front_that_connects();
+    two_requests();
+    words_of_a_sector_that_is_written();
+    words_of_a_sector_that_is_read();
+    vbd_back_free(&back);
     return wrong != 0;
 }
