@@ -1,5 +1,6 @@
 // A frontend over a back by hand, from its first watch to its first request, and to its end.
 mod data;
+mod parts;
 mod script;
 
 use blk_base::Refusal;

@@ -9,7 +9,7 @@ use blk_base::{
     Abi, Config, End, Endpoint, FrontAnswer, FrontAsk, Lent, Path, Refusal, SectorCount, Status,
     Submission, Text,
 };
-use blk_front::Told;
+use blk_front::{SectorPart, Told};
 use std::alloc::Global;
 use std::process::Abort;
 use vbd_front::Frontend;
@@ -67,6 +67,12 @@ pub enum Step<'a> {
     IsAsking(Ask),
     /// What is asked by `data_asked`.
     DataAsked(Option<Ask>),
+    /// The words of data that are asked for next.
+    Part(Option<SectorPart>),
+    /// So many of them are written at once, and nothing is told.
+    WritesPart(u32),
+    /// So many of them, each this one, are read at once; what that tells.
+    ReadsPart(u32, u32, Option<Told>),
     Waits(bool),
     HasTold(bool),
     Owed(u32, u64),
@@ -310,6 +316,31 @@ fn data_asked(rt: &impl Abort, front: &Frontend, wanted: Option<Ask>) {
     }
 }
 
+fn part(front: &Frontend) -> Option<SectorPart> {
+    front.sector_part()
+}
+
+fn writes_part(rt: &impl Abort, front: &mut Frontend, count: u32) {
+    same(rt, front.take_told(), (None, None));
+    match front.sector_part() {
+        Some(part) if part.value.is_some() && count <= part.count => front.tell_written(count),
+        _ => holds(rt, false),
+    }
+    same(rt, take_told(front), (None, None));
+}
+
+fn reads_part(rt: &impl Abort, front: &mut Frontend, count: u32, word: u32, told: Option<Told>) {
+    same(rt, front.take_told(), (None, None));
+    let words = [word; 128];
+    match front.sector_part() {
+        Some(part) if part.value.is_none() && count <= part.count => {
+            front.tell_read(&words[..count as usize]);
+        }
+        _ => holds(rt, false),
+    }
+    same(rt, take_told(front), (told, None));
+}
+
 const OKAY: Told = Told::Answer {
     id: 1,
     status: Status::Okay,
@@ -336,6 +367,9 @@ fn takes(rt: &impl Abort, front: &mut Frontend, step: &Step) {
         Step::Suspends => suspend(front),
         Step::IsAsking(wanted) => same(rt, asking(front), asked(wanted)),
         Step::DataAsked(wanted) => data_asked(rt, front, wanted),
+        Step::Part(wanted) => same(rt, part(front), wanted),
+        Step::WritesPart(count) => writes_part(rt, front, count),
+        Step::ReadsPart(count, word, told) => reads_part(rt, front, count, word, told),
         Step::Waits(wanted) => same(rt, waits(front), wanted),
         Step::HasTold(wanted) => same(rt, has_told(front), wanted),
         Step::Owed(count, sectors) => same(rt, owed(front), (count, sectors)),
