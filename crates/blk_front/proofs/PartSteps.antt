@@ -17,11 +17,11 @@ use Rattle.blk_front.specs.declared.stage.Ending.{Ending}
 use Rattle.blk_front.specs.declared.stage.FrontStage.{FrontStage}
 use Rattle.blk_front.specs.declared.stage.FrontStage.TheVariants as stage
 use Rattle.blk_front.specs.declared.told.Told.TheVariants as told
-use Rattle.blk_front.specs.Request.{words_in, frame_at, filling_at, is_write, is_indirect}
+use Rattle.blk_front.specs.Request.{words_in, frame_at, filling_at, is_write}
 use Rattle.blk_front.specs.View.{View, next_request}
 use Rattle.blk_front.specs.Ask.{IsAnswer, data_ask, read_ask}
 use Rattle.blk_front.specs.Step.{at, sector_told, data_step, left_step}
-use Rattle.blk_front.specs.Keep.{ask_as_at, ask_as, loop_ask_as, issue_ask_as, begun_as, loop_step_as, step_as_at, step_as, data_next, grants, first_place}
+use Rattle.blk_front.specs.Keep.{ask_as_at, ask_as, loop_ask_as, issue_ask_as, begun_as, loop_step_as, step_as_at, step_as, data_next}
 use Rattle.blk_front.specs.Part.{words_from, part_from, written_part, first_part, read_part, part_at, sector_part, HasWritten, HasRead, written_word, all_written, all_read, AllInTurn, IsTellable, AreTellable, steps_as, AsksEach, with_words}
 
 -- the first choice is made where a number is below another
@@ -254,19 +254,6 @@ written_each v (suc k) has quiet =
     let w = found.1 in
     let answers : (m : ℕ) → IsAnswer (ask_as (at (stage.Data m) v)) Done = λ m. subst (λ (o : Option Request). IsAnswer (data_ask o m) Done) (sym w.next) tt in
     written_in_turn IsTellable v (suc k) has (subst (λ (a : FrontAsk). IsAnswer a Done) (sym w.asks) (answers (written_word v.stage)), quiet) (λ m. (answers m, quiet))
-
--- that tells nothing
-pub data_keeps_told : (v : View) (next : Option Request) (n : ℕ) → (data_next v next n).told ≡ v.told
-data_keeps_told v None n = refl
-data_keeps_told v (Some r) n = either (nat_lt (n + 1) (words_in r)) _ _ refl (either (is_indirect r.count) _ _ refl (granting (first_place v r)))
-  where
-    either : (b : Bool) (x y : View) → x.told ≡ v.told → y.told ≡ v.told → (if b then x else y).told ≡ v.told
-    either true x y p q = p
-    either false x y p q = q
-
-    granting : (place : Option ℕ) → (grants v r place).told ≡ v.told
-    granting (Some place) = refl
-    granting None = refl
 
 -- so many words of a read's data, from this one on, are read next at a stage
 pub record IsReadOf (s : ℕ → FrontStage) (v : View) (n count : ℕ) (e : Ending) : Type 0 where
