@@ -52,7 +52,7 @@ part_read v words = moved (has_read (sector_part v) (length words)) v (all_read 
 abbrev pub read_status : View → List ℕ → Status
 read_status v words = moved_status (has_read (sector_part v) (length words)) v (all_read words)
 
--- in the words of the front: what it doesn't ask for changes nothing, and what it does, where nothing is left to tell, is one move with each answer, which it may be told in its turn
+-- in the words of the front: what isn't asked for changes nothing, and what is, where nothing is left to tell, is one move with each answer in turn
 pub record IsMoved (asked : Type 0) (v : View) (answers : List FrontAnswer) (after : View) : Type 0 where
   pub refused : ¬ asked → after ≡ v
   pub each : has_told v ≡ false → asked → AreTellable v answers
