@@ -31,6 +31,7 @@ const BEGINS: &[Step<'static>] = &[
     Step::Watches(FRONT_STATE),
     Step::Waits(true),
     Step::Idle(true),
+    Step::HasNoPart,
     Step::Asks(Ask::Wait),
 ];
 

@@ -2,7 +2,7 @@
 mod script;
 
 use crate::asks::{Answer, Ask};
-use back_jobs::Effect;
+use back_jobs::{Effect, SectorPart};
 use blk_base::{Mapping, Mode, Status};
 use script::{FRAME, READ_ONLY, Step, plays, plays_keeping_one, plays_on};
 
@@ -51,6 +51,73 @@ fn a_read_writes_its_sectors_to_the_frame(rt: HostRuntime) {
             Step::WritesWords(2),
             Step::Asks(Ask::DiskRead(7)),
             Step::WritesWords(3),
+            Step::Asks(Ask::Unmap(FRAME)),
+            Step::Told(Answer::Done),
+            Step::Done(Some((1, 5, 0, Status::Okay))),
+        ],
+    );
+}
+
+// Words of a sector that a job moves next.
+fn part(mapping: Mapping, word: u32, count: u32, writes: bool) -> Option<SectorPart> {
+    Some(SectorPart {
+        mapping,
+        word,
+        count,
+        writes,
+    })
+}
+
+#[test]
+fn words_are_read_many_at_once_as_one_by_one(rt: HostRuntime) {
+    plays(
+        &rt,
+        rt.alloc(),
+        false,
+        &[
+            Step::Starts(1, 1, 6),
+            Step::Part(None),
+            Step::Told(Answer::Mapped(READ_ONLY)),
+            // its first sector at once
+            Step::Part(part(READ_ONLY, 256, 128, false)),
+            Step::ReadsPart(128),
+            Step::Part(None),
+            Step::DiskWritesWords(6),
+            Step::Tells(Answer::Done, Effect::Moved { id: 5, index: 0 }),
+            // the other one in parts, with a word by itself between them
+            Step::ReadsPart(0),
+            Step::ReadsPart(100),
+            Step::Asks(Ask::Read(READ_ONLY, 484)),
+            Step::Told(Answer::Word(100)),
+            Step::Part(part(READ_ONLY, 485, 27, false)),
+            Step::ReadsPart(27),
+            Step::DiskWritesWords(7),
+            Step::Tells(Answer::Done, Effect::Moved { id: 5, index: 1 }),
+            Step::Asks(Ask::Unmap(READ_ONLY)),
+        ],
+    );
+}
+
+#[test]
+fn words_are_written_many_at_once_as_one_by_one(rt: HostRuntime) {
+    plays(
+        &rt,
+        rt.alloc(),
+        false,
+        &[
+            Step::Starts(1, 0, 6),
+            Step::Told(Answer::Mapped(FRAME)),
+            Step::Part(None),
+            Step::Sector,
+            Step::Part(part(FRAME, 256, 128, true)),
+            Step::WritesPart(128),
+            Step::Asks(Ask::DiskRead(7)),
+            Step::Sector,
+            Step::WritesPart(0),
+            Step::WritesPart(127),
+            Step::Asks(Ask::Write(FRAME, 511, 9)),
+            Step::Part(part(FRAME, 511, 1, true)),
+            Step::WritesPart(1),
             Step::Asks(Ask::Unmap(FRAME)),
             Step::Told(Answer::Done),
             Step::Done(Some((1, 5, 0, Status::Okay))),

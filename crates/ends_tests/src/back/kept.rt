@@ -84,6 +84,32 @@ fn a_back_that_keeps_one_mapping_lets_go_of_the_older_one(rt: HostRuntime) {
 }
 
 #[test]
+fn words_that_are_moved_at_once_leave_what_single_ones_do(rt: HostRuntime) {
+    plays(
+        &rt,
+        rt.alloc(),
+        0,
+        &[&[
+            Step::AttachesKeeping(1),
+            Step::Maps(RING),
+            Step::Does(Ask::Bind(1)),
+            Step::Reads(RING, 0, 2),
+            Step::FetchesWrite(16, 1, 0, 24),
+            Step::FetchesRead(44, 2, 1, 25),
+            Step::JobDoes(1, Ask::Map(24, Mode::ReadWrite), Answer::Mapped(FRAME)),
+            Step::JobMovesAtOnce(1, FRAME, 0),
+            Step::JobAsks(1, Ask::Wait),
+            Step::JobDoes(2, Ask::Map(25, Mode::ReadWrite), Answer::Mapped(OTHER)),
+            Step::JobAsks(2, Ask::DiskRead(1)),
+            Step::JobWritesAtOnce(2, OTHER),
+            // the second frame is kept, and the first one goes
+            Step::JobDoes(2, Ask::Unmap(FRAME), Answer::Done),
+            Step::JobAsks(2, Ask::Wait),
+        ]],
+    );
+}
+
+#[test]
 fn a_halt_unmaps_what_jobs_have_in_hand_before_what_is_kept(rt: HostRuntime) {
     plays(
         &rt,

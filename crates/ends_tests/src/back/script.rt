@@ -3,7 +3,9 @@
 use crate::asks::{Answer, Ask, RING, Why, asked, given, halt};
 use crate::expected::{holds, same};
 use blk_back::{Back, BackTold};
-use blk_base::{Abi, BackAnswer, BackAsk, Config, Endpoint, Halt, Mapping, OutOfMemory, Status};
+use blk_base::{
+    Abi, BackAnswer, BackAsk, Config, Endpoint, Halt, Lent, Mapping, OutOfMemory, Status,
+};
 use std::alloc::Global;
 use std::process::Abort;
 
@@ -41,6 +43,12 @@ pub enum Step<'a> {
     /// The job of a number reads the words of the first sector through this mapping, each word once, and
     /// writes them to this sector of the disk.
     JobMoves(u64, Mapping, u64),
+    /// The same, with all words read at once.
+    JobMovesAtOnce(u64, Mapping, u64),
+    /// As `FetchesWrite`, for a read.
+    FetchesRead(u32, u32, u32, u32),
+    /// The disk gives the job of a number a sector, and all its words are written at once through this mapping.
+    JobWritesAtOnce(u64, Mapping),
 }
 
 // A back on a disk of eight sectors, whose ring starts at this index.
@@ -86,6 +94,7 @@ fn tell_job(rt: &impl Abort, back: &mut Back, number: u64, given: BackAnswer) {
         (BackAsk::Map { gref, mode }, BackAnswer::Mapped(m)) => m.gref == gref && m.mode == mode,
         (BackAsk::Read { .. }, BackAnswer::Word(_)) => true,
         (BackAsk::DiskWrite(_, _), BackAnswer::Done) => true,
+        (BackAsk::DiskRead(_), BackAnswer::Sector(_)) => true,
         (BackAsk::Unmap(_), BackAnswer::Done) => true,
         _ => false,
     };
@@ -141,8 +150,13 @@ fn reads_zeros(rt: &impl Abort, back: &mut Back, mapping: Mapping, (first, end):
     }
 }
 
-fn fetches_write(rt: &impl Abort, back: &mut Back, at: u32, (id, sector, gref): (u32, u32, u32)) {
-    let words = [0xca000101, 0, id, 0, sector, 0, gref];
+fn fetches(
+    rt: &impl Abort,
+    back: &mut Back,
+    (at, first): (u32, u32),
+    (id, sector, gref): (u32, u32, u32),
+) {
+    let words = [first, 0, id, 0, sector, 0, gref];
     for (k, word) in (0..7u32).zip(words) {
         let place = at.wrapping_add(k);
         does(rt, back, Ask::Read(RING, place), Answer::Word(word));
@@ -160,12 +174,42 @@ fn job_moves(rt: &impl Abort, back: &mut Back, number: u64, (mapping, sector): (
         let read = (Ask::Read(mapping, word), Answer::Word(word));
         job_does(rt, back, number, read);
     }
+    writes_sector(rt, back, number, sector);
+}
+
+fn writes_sector(rt: &impl Abort, back: &mut Back, number: u64, sector: u64) {
     let writes = match job_ask(back, number) {
         BackAsk::DiskWrite(written, _) => Some(written),
         _ => None,
     };
     same(rt, writes, Some(sector));
     tell_job(rt, back, number, BackAnswer::Done);
+}
+
+fn moves_at_once(rt: &impl Abort, back: &mut Back, number: u64, (mapping, sector): (Mapping, u64)) {
+    let _ = back.take_told();
+    match back.sector_part(number) {
+        Some(part) if !part.writes && part.count == 128 => {
+            same(rt, (part.mapping, part.word), (mapping, 0));
+            back.job_tell_read(number, &[5; 128]);
+        }
+        _ => holds(rt, false),
+    }
+    writes_sector(rt, back, number, sector);
+}
+
+fn writes_at_once(rt: &impl Abort, back: &mut Back, number: u64, mapping: Mapping) {
+    let words = [9; 128];
+    tell_job(rt, back, number, BackAnswer::Sector(Lent::at(&words)));
+    let _ = back.take_told();
+    holds(rt, back.part_values(number) == words.as_slice());
+    match back.sector_part(number) {
+        Some(part) if part.writes && part.count == 128 => {
+            same(rt, (part.mapping, part.word), (mapping, 0));
+            back.job_tell_written(number, 128);
+        }
+        _ => holds(rt, false),
+    }
 }
 
 fn replies(rt: &impl Abort, back: &mut Back, id: u64, status: Status) {
@@ -207,8 +251,15 @@ fn serves(rt: &impl Abort, back: &mut Back, step: &Step) {
     match *step {
         Step::AttachesKeeping(kept) => attach_keeping(back, kept),
         Step::FetchesWrite(at, id, sector, gref) => {
-            fetches_write(rt, back, at, (id, sector, gref))
+            fetches(rt, back, (at, 0xca000101), (id, sector, gref))
         }
+        Step::FetchesRead(at, id, sector, gref) => {
+            fetches(rt, back, (at, 0xca000100), (id, sector, gref))
+        }
+        Step::JobMovesAtOnce(number, mapping, sector) => {
+            moves_at_once(rt, back, number, (mapping, sector))
+        }
+        Step::JobWritesAtOnce(number, mapping) => writes_at_once(rt, back, number, mapping),
         Step::JobDoes(number, asks, answer) => job_does(rt, back, number, (asks, answer)),
         Step::JobMoves(number, mapping, sector) => job_moves(rt, back, number, (mapping, sector)),
         _ => {}

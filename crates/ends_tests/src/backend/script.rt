@@ -34,6 +34,8 @@ pub enum Step<'a> {
     Halted(Option<Why>),
     /// It is to close.
     Closes,
+    /// No job of it has words to move.
+    HasNoPart,
 }
 
 /// The front's state.
@@ -79,6 +81,11 @@ fn close(backend: &mut Backend) {
 
 fn halted(backend: &Backend) -> Option<Halt> {
     backend.halted()
+}
+
+fn has_no_part(rt: &impl Abort, backend: &Backend) {
+    same(rt, backend.sector_part(1), None);
+    holds(rt, backend.part_values(1).is_empty());
 }
 
 // Answers what the backend asks with an answer of that kind.
@@ -173,6 +180,7 @@ fn takes(rt: &impl Abort, backend: &mut Backend, step: &Step) {
         Step::Idle(wanted) => same(rt, idle(backend), wanted),
         Step::Halted(why) => same(rt, halted(backend), why.map(halt)),
         Step::Closes => close(backend),
+        Step::HasNoPart => has_no_part(rt, backend),
     }
 }
 

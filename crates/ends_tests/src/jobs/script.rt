@@ -4,7 +4,7 @@ ghost use Rattle.std.specs.Prelude.{◌≤◌};
 
 use crate::asks::{Answer, Ask, asked, given};
 use crate::expected::{holds, same};
-use back_jobs::{Effect, Jobs};
+use back_jobs::{Effect, Jobs, SectorPart};
 use blk_base::{Abi, BackAnswer, BackAsk, Lent, Mapping, Mode, OutOfMemory, Status};
 use blk_layout::{RawRequest, Segment};
 use ring_words::RingShape;
@@ -62,6 +62,16 @@ pub enum Step {
     Moves(u64, Mapping),
     /// This mapping is given up.
     GivesUp(Mapping),
+    /// The words of a sector that it moves next.
+    Part(Option<SectorPart>),
+    /// So many of them were read at once, each the number of its place in the sector.
+    ReadsPart(u32),
+    /// So many of them are to be 9, and were written at once.
+    WritesPart(u32),
+    /// It writes a sector to the disk, of words that are each the number of its place.
+    DiskWritesWords(u64),
+    /// The disk gives it a sector, of words that are each 9.
+    Sector,
 }
 
 /// The frame of a job, mapped for reading alone.
@@ -251,6 +261,56 @@ fn disk_writes(rt: &impl Abort, jobs: &Jobs, sector: u64) {
     same(rt, writes, Some(sector));
 }
 
+fn part(jobs: &Jobs) -> Option<SectorPart> {
+    jobs.sector_part(1)
+}
+
+fn reads_part(rt: &impl Abort, jobs: &mut Jobs, count: u32) {
+    let words = number_words();
+    match jobs.sector_part(1) {
+        Some(part) if !part.writes && count <= part.count => {
+            let first = (128 - part.count) as usize;
+            jobs.tell_read(1, &words[first..first + count as usize]);
+        }
+        _ => holds(rt, false),
+    }
+}
+
+fn writes_part(rt: &impl Abort, jobs: &mut Jobs, count: u32) {
+    match jobs.sector_part(1) {
+        Some(part) if part.writes && count <= part.count => {
+            same(rt, jobs.part_values(1).len(), part.count as usize);
+            holds(rt, jobs.part_values(1).iter().all(|word| *word == 9));
+            jobs.tell_written(1, count);
+        }
+        _ => holds(rt, false),
+    }
+}
+
+// The words of a sector that are each the number of its place.
+fn number_words() -> [u32; 128] {
+    let mut words = [0; 128];
+    for k in 0..128u32 {
+        words[k as usize] = k;
+    }
+    words
+}
+
+fn disk_writes_words(rt: &impl Abort, jobs: &Jobs, sector: u64) {
+    disk_writes(rt, jobs, sector);
+    let words = number_words();
+    let same_words = match ask(jobs, 1) {
+        BackAsk::DiskWrite(_, written) => *written.get() == words,
+        _ => false,
+    };
+    holds(rt, same_words);
+}
+
+fn sector(rt: &impl Abort, jobs: &mut Jobs) {
+    let words = [9; 128];
+    let _ = tell(rt, jobs, 1, BackAnswer::Sector(Lent::at(&words)));
+}
+
 fn writes_words(rt: &impl Abort, jobs: &mut Jobs, sector: u32) {
     let words = [9; 128];
     let _ = tell(rt, jobs, 1, BackAnswer::Sector(Lent::at(&words)));
@@ -311,6 +371,11 @@ fn takes(rt: &impl Abort, jobs: &mut Jobs, step: &Step) {
         Step::JobAsks(number, wanted) => same(rt, ask(jobs, number), asked(wanted)),
         Step::Moves(number, mapping) => moves(rt, jobs, number, mapping),
         Step::GivesUp(mapping) => same(rt, abort(jobs), Some(mapping)),
+        Step::Part(wanted) => same(rt, part(jobs), wanted),
+        Step::ReadsPart(count) => reads_part(rt, jobs, count),
+        Step::WritesPart(count) => writes_part(rt, jobs, count),
+        Step::DiskWritesWords(sector) => disk_writes_words(rt, jobs, sector),
+        Step::Sector => sector(rt, jobs),
     }
 }
 
