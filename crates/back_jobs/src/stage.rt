@@ -2,7 +2,7 @@
 use blk_base::{Mapping, Status};
 
 /// What a job is doing. Each has exactly one thing to ask next.
-#[derive(Clone, Copy, Debug, PartialEq, Eq)]
+#[derive(Clone, Copy)]
 pub enum JobStage {
     /// Maps the indirect page that it comes to next.
     MapPage,

@@ -3,7 +3,7 @@ use blk_base::{Mapping, Status};
 
 /// The response to a request whose job is done: the request's id, the operation that is answered,
 /// and how it ended.
-#[derive(Clone, Copy, Debug, PartialEq, Eq)]
+#[derive(Clone, Copy)]
 pub struct Reply {
     pub id: u64,
     pub op: u8,
@@ -11,7 +11,7 @@ pub struct Reply {
 }
 
 /// What the back is doing. Each has exactly one thing to ask next.
-#[derive(Clone, Copy, Debug, PartialEq, Eq)]
+#[derive(Clone, Copy)]
 pub enum BackStage {
     /// Waits for the terms of its front (XenbusStateInitWait of `io/xenbus.h`).
     InitWait,

@@ -8,7 +8,7 @@ use std::marker::Model;
 
 /// The frames of a request, 962 at most: those of the data of 960 segments, and two indirect pages.
 /// After `new` it takes no memory.
-#[derive(Debug, Drop)]
+#[derive(Drop)]
 pub struct FrameList {
     frames: Vec<PoolFrame>,
 }

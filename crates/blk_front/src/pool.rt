@@ -5,7 +5,7 @@ ghost use Rattle.blk_front.specs.Pool.{lowest_of, is_taken, taken_from, untaken_
 use std::marker::Model;
 
 /// A frame of the pool: 18 to 1017.
-#[derive(Clone, Copy, Debug, PartialEq, Eq)]
+#[derive(Clone, Copy)]
 pub struct PoolFrame {
     number: u32,
 }

@@ -22,7 +22,7 @@ const PAGE_SEGMENTS: u32 = 512;
 const MAX_PAGES: usize = 8;
 
 /// What a request has done: which way its sectors go, or that none go between frames and the disk.
-#[derive(Clone, Copy, Debug, PartialEq, Eq)]
+#[derive(Clone, Copy)]
 pub enum Transfer {
     /// From the disk into the frames (`BLKIF_OP_READ`).
     Read,
@@ -112,7 +112,7 @@ pub fn pages_for(count: u32) -> u32
 
 /// What is asked of the front: the first disk sector, how many sectors go between frames and the
 /// disk, and what is done.
-#[derive(Clone, Copy, Debug, PartialEq, Eq)]
+#[derive(Clone, Copy)]
 pub struct Wish {
     pub sector: u64,
     pub count: u32,
@@ -123,7 +123,7 @@ pub struct Wish {
 /// ring, its first disk sector, how many sectors go between frames and the disk (1 to 7680 of a read or
 /// a write, 1 to 88 of a barrier, none of a flush or a discard), what is done, and its frames: those of
 /// its data, eight sectors in each, in order, and then its indirect pages.
-#[derive(Debug, Drop)]
+#[derive(Drop)]
 pub struct Request {
     pub number: u32,
     pub sector: u64,

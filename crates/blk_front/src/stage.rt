@@ -3,7 +3,7 @@ use crate::request::Request;
 use blk_base::Status;
 
 /// A request whose response was taken, and whose grants are being ended or whose data are told.
-#[derive(Debug, Drop)]
+#[derive(Drop)]
 pub struct Ending {
     pub request: Request,
     pub status: Status,
@@ -11,7 +11,7 @@ pub struct Ending {
 
 /// What the front is doing. Each has exactly one thing to ask next. The request that is being issued is
 /// the first that waits; the one that is ending has a place of its own.
-#[derive(Clone, Copy, Debug, PartialEq, Eq)]
+#[derive(Clone, Copy)]
 pub enum FrontStage {
     /// Makes the ring: its word of this number is written next, 0 to 15.
     RingWord(u32),

@@ -25,7 +25,7 @@ impl fmt::Display for BadPort {
 impl Error for BadPort {}
 
 /// What a port of the front is (`EVTCHNSTAT_*` of `event_channel.h`).
-#[derive(Clone, Copy, Debug, Default, PartialEq, Eq)]
+#[derive(Clone, Copy, Default)]
 pub enum PortState {
     #[default]
     Closed,

@@ -2,7 +2,7 @@
 use blk_base::{SectorWords, Status, Submission};
 
 /// How far a request is told of.
-#[derive(Clone, Copy, Debug, PartialEq, Eq)]
+#[derive(Clone, Copy)]
 pub enum RequestStage {
     /// Its answer wasn't told.
     Open,
@@ -14,7 +14,7 @@ pub enum RequestStage {
 
 /// A request that was submitted. Whether it faulted and what was replied to it is kept for the
 /// present epoch alone.
-#[derive(Clone, Copy, Debug, PartialEq, Eq)]
+#[derive(Clone, Copy)]
 pub struct DiskRequest {
     pub submission: Submission,
     pub faulted: bool,
@@ -24,14 +24,14 @@ pub struct DiskRequest {
 
 /// A place of a request that was done in this epoch: its number, and the sector in it from 0; 0 for
 /// a flush and a discard.
-#[derive(Clone, Copy, Debug, PartialEq, Eq)]
+#[derive(Clone, Copy)]
 pub struct Place {
     pub id: u64,
     pub index: u32,
 }
 
 /// A sector that a request read, with the words that its effect showed.
-#[derive(Clone, Copy, Debug, PartialEq, Eq)]
+#[derive(Clone, Copy)]
 pub struct Noted {
     pub id: u64,
     pub index: u32,
@@ -40,7 +40,7 @@ pub struct Noted {
 
 /// What sectors hold from a moment on: each of `count`, the first one `from` sectors after
 /// `sector`, has these words, or words that nobody knows.
-#[derive(Clone, Copy, Debug, PartialEq, Eq)]
+#[derive(Clone, Copy)]
 pub struct Written {
     pub sector: u64,
     pub from: u32,

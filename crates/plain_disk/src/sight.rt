@@ -10,7 +10,7 @@ use schedule_text::Line;
 
 /// What the lines so far show of the front: the options of the run, whether it is connected in this
 /// epoch, whether it was closing, and whether it was broken.
-#[derive(Clone, Copy, Debug, PartialEq, Eq)]
+#[derive(Clone, Copy)]
 pub struct Sight {
     pub config: Option<Config>,
     pub connected: bool,

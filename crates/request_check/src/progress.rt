@@ -13,7 +13,7 @@ use std::collections::{BTreeMap, BTreeSet};
 use std::marker::Model;
 
 /// What the lines tell as done of a request: a place, a fault of the disk, or a reply.
-#[derive(Clone, Copy, Debug, PartialEq, Eq)]
+#[derive(Clone, Copy)]
 pub enum Doing {
     Done(u32),
     Failed,

@@ -10,14 +10,14 @@ use std::collections::BTreeMap;
 use std::marker::Model;
 
 /// What one sector holds, where that is known, and how many discards came before that.
-#[derive(Clone, Copy, Debug, PartialEq, Eq)]
+#[derive(Clone, Copy)]
 pub struct Single {
     pub words: Option<SectorWords>,
     pub since: usize,
 }
 
 /// The sectors of a discard: zeros, or unknown where the disk failed.
-#[derive(Clone, Copy, Debug, PartialEq, Eq)]
+#[derive(Clone, Copy)]
 pub struct Discarded {
     pub sector: u64,
     pub count: u32,

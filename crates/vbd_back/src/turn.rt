@@ -8,7 +8,7 @@ use blk_back::{Back, BackStage};
 use xenbus_state::{BackBus, BackBusAsk};
 
 /// Whose turn it is.
-#[derive(Clone, Copy, Debug, PartialEq, Eq)]
+#[derive(Clone, Copy)]
 pub enum Turn {
     /// The negotiation's, which asks for a key or a watch, between two steps of the ring's end.
     Keys,

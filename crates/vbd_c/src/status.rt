@@ -5,7 +5,7 @@ ghost use Rattle.vbd_c.specs.Status.{refusal_code, code_of};
 use blk_base::Refusal;
 
 /// What became of a call. But for `Done` and `Told` it changed nothing.
-#[derive(Clone, Copy, Debug, PartialEq, Eq)]
+#[derive(Clone, Copy)]
 pub enum Status {
     Done,
     /// It is done, and the move told something, which is to be taken before the next answer.

@@ -7,7 +7,7 @@ use blk_front::Front;
 use xenbus_state::{FrontBus, FrontBusAsk};
 
 /// Whose turn it is.
-#[derive(Clone, Copy, Debug, PartialEq, Eq)]
+#[derive(Clone, Copy)]
 pub enum Turn {
     /// The negotiation's, which asks for a key or a watch.
     Keys,

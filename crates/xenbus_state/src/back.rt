@@ -22,7 +22,7 @@ use blk_base::{Abi, BackAnswer, Mapping};
 use std::marker::Model;
 
 /// What the back's end asks.
-#[derive(Clone, Copy, Debug, PartialEq, Eq)]
+#[derive(Clone, Copy)]
 pub enum BackBusAsk {
     /// Nothing is begun: answered by `Event` or `Watched`.
     Wait,

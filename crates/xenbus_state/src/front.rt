@@ -17,7 +17,7 @@ use blk_base::{Abi, Config, FrontAnswer};
 use std::marker::Model;
 
 /// What the front's end asks. Pages of the ring count from 0.
-#[derive(Clone, Copy, Debug, PartialEq, Eq)]
+#[derive(Clone, Copy)]
 pub enum FrontBusAsk {
     /// Nothing is begun: answered by `Event` or `Watched`.
     Wait,

@@ -34,7 +34,7 @@ pub enum FrontBusStage {
 }
 
 /// What the back is doing. Each has exactly one thing to ask next.
-#[derive(Clone, Copy, Debug, PartialEq, Eq)]
+#[derive(Clone, Copy)]
 pub enum BackBusStage {
     /// Publishes what it offers.
     Publish(BackKey),

@@ -16,7 +16,7 @@ const SECTOR_SIZE: u64 = 512;
 const VDISK_READONLY: u64 = 4;
 
 /// What a key says.
-#[derive(Clone, Copy, Debug, PartialEq, Eq)]
+#[derive(Clone, Copy)]
 pub enum KeyValue {
     /// A number, in decimal digits.
     Number(u64),
