@@ -14,6 +14,13 @@ spaced old new digits first size all_old all_new some whole written =
     ∙ ap (λ (l : List ℕ). 32 ∷ l) (ap (λ (n : ℕ). drop n new) next ∙ (written ∙ (ap (λ (l : List ℕ). digits ++ l) (drop_all size old (omega arith)) ∙ append-nil digits))) in
     ap (take (size - (first - 1))) end ∙ take_all (size - (first - 1)) (32 ∷ digits) (omega arith)
 
+-- a space put before digits and what follows them
+pub space_before : (new rest digits : List ℕ) (first : ℕ) → 1 ≤ first → first ≤ length new → drop first new ≡ digits ++ rest
+    → drop (first - 1) (set new (first - 1) 32) ≡ 32 ∷ (digits ++ rest)
+space_before new rest digits first some within written =
+    let next : first - 1 + 1 ≡ first = omega arith in
+    drop-set new (first - 1) 32 (omega arith) ∙ ap (λ (l : List ℕ). 32 ∷ l) (ap (λ (n : ℕ). drop n new) next ∙ written)
+
 -- bytes that are picked from ASCII text are ASCII text
 pub picked : (d : List ℕ) → IsAscii d → (places : List ℕ) → IsAscii (map (slice_index d) places)
 picked d all [] = IsAscii-nil

@@ -5,12 +5,14 @@
 #![tactic(auto)]
 
 mod numbers;
+mod prepending;
 mod sectors;
 mod strict;
 mod texts;
 mod words;
 mod writing;
 
+pub use prepending::{prepend, prepend_hex, prepend_number};
 pub use sectors::{put_sector, sector};
 pub use strict::{after, number_before, whole_hex};
 pub use texts::{is_key_name, is_key_path, is_key_text, short_text};

@@ -4,6 +4,7 @@
 //! reads a schedule or a report, or makes one, stands on this one.
 #![tactic(auto)]
 
+mod access_line;
 mod accesses;
 mod event;
 mod exact;

@@ -5,10 +5,10 @@ ghost use Rattle.arrayvec.specs.ArrayString.{array_string_len};
 ghost use Rattle.blk_base.specs.Access.{move_of};
 ghost use Rattle.schedule_text.specs.declared.line.Line.{Line};
 ghost use Rattle.schedule_text.specs.Line.{text_of};
-ghost use Rattle.schedule_text.specs.Recorder.{recorded, counted, Adds};
+ghost use Rattle.schedule_text.specs.Recorder.{recorded, counted, line_bytes, Adds};
 ghost use Rattle.schedule_text.specs.Recorders.{KeepsLine, WritesLine, kept_back_of, tells_of_change, writing};
 
-use crate::accesses::write_access;
+use crate::access_line::end_with_access;
 use crate::line::{Detail, Line};
 use crate::recorder::{RecordStop, Recorder, RoundsEnd, Shown, Tally};
 use crate::writing::{write_line, write_shown};
@@ -141,7 +141,7 @@ impl<'a, S: Sink> Recorder for LineSink<'a, S> {
         match self.detail {
             Detail::Lines => Ok(()),
             Detail::Moves => match made.access() {
-                Some(access) => write_accessed(self.sink, &mut self.room, &access),
+                Some(access) => write_accessed(self.sink, &access),
                 None => write_move(self.sink, &mut self.room, made),
             },
         }
@@ -180,23 +180,27 @@ fn send<S: Sink>(sink: &mut S, text: &mut LineText) -> Result<(), RecordStop>
     ensures { (line : Line) → text.old.bytes ≡ text_of line → WritesLine line result (S.seen sink.old) (S.seen sink.new) }
 {
     text.push_str("\n");
-    match sink.write(text.as_str().as_bytes()) {
+    hand_over(sink, text.as_str().as_bytes())
+}
+
+// Writes a line's bytes.
+fn hand_over<S: Sink>(sink: &mut S, bytes: &[u8]) -> Result<(), RecordStop>
+    ensures { (line : Line) → bytes.now ≡ line_bytes line → WritesLine line result (S.seen sink.old) (S.seen sink.new) }
+{
+    match sink.write(bytes) {
         Ok(()) => Ok(()),
         Err(Failed) => Err(RecordStop::Failed),
     }
 }
 
-// Writes the line of an access.
+// Writes the line of an access and its line feed.
 #[inline(never)]
-fn write_accessed<S: Sink>(
-    sink: &mut S,
-    text: &mut LineText,
-    access: &Access,
-) -> Result<(), RecordStop>
+fn write_accessed<S: Sink>(sink: &mut S, access: &Access) -> Result<(), RecordStop>
     ensures { WritesLine (Line.Move (move_of access.now)) result (S.seen sink.old) (S.seen sink.new) }
 {
-    write_access(text, access);
-    send(sink, text)
+    let mut room = [0; 112];
+    let start = end_with_access(&mut room, access);
+    hand_over(sink, &room[start..])
 }
 
 // Makes the line of a move, and writes it.
