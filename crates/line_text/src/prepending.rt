@@ -7,6 +7,19 @@ ghost use Rattle.line_text.specs.Numbers.{hex8};
 use crate::writing::eight;
 use itoa::write_digits;
 
+/// Puts these bytes before the bytes from `end` on.
+#[inline(always)]
+fn prepend_bytes(room: &mut [u8], end: usize, bytes: &[u8]) -> usize
+    requires before { length bytes.now ≤ end }
+    requires within { end ≤ length room.old }
+    ensures written { drop result room.new ≡ bytes.now ++ drop end room.old }
+    ensures start { result + length bytes.now ≡ end }
+{
+    let start = end - bytes.len();
+    room[start..end].copy_from_slice(bytes);
+    start
+}
+
 /// Puts a text before the bytes from `end` on.
 #[inline(always)]
 pub fn prepend(room: &mut [u8], end: usize, text: &str) -> usize
@@ -15,9 +28,7 @@ pub fn prepend(room: &mut [u8], end: usize, text: &str) -> usize
     ensures written { drop result room.new ≡ text.now ++ drop end room.old }
     ensures start { result + length text.now ≡ end }
 {
-    let start = end - text.len();
-    room[start..end].copy_from_slice(text.as_bytes());
-    start
+    prepend_bytes(room, end, text.as_bytes())
 }
 
 /// Puts a space and a number in decimal digits before the bytes from `end` on.
@@ -40,8 +51,8 @@ pub fn prepend_hex(room: &mut [u8], end: usize, word: u32) -> usize
     ensures written { drop result room.new ≡ 32 ∷ hex8 word ++ drop end room.old }
     ensures start { result + 9 ≡ end }
 {
-    let space = end - 9;
-    room[space] = b' ';
-    room[space + 1..end].copy_from_slice(&eight(word));
-    space
+    let d = eight(word);
+    // The nine bytes as one array: so the compiler makes the digits side by side.
+    let bytes = [b' ', d[0], d[1], d[2], d[3], d[4], d[5], d[6], d[7]];
+    prepend_bytes(room, end, &bytes)
 }
