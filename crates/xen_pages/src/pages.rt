@@ -1,6 +1,6 @@
 // Frames of words.
-ghost use Rattle.std.specs.Prelude.{◌≡◌, ◌<◌, length, IfOk};
-ghost use Rattle.xen_pages.specs.Pages.{word_of, with_word, zero_words, fresh_pages, owner_of, OnlyChanges};
+ghost use Rattle.std.specs.Prelude.{◌≡◌, ◌+◌, ◌<◌, ◌≤◌, ◌++◌, length, take, drop, IfOk};
+ghost use Rattle.xen_pages.specs.Pages.{word_of, with_word, words_of, with_words, zero_words, fresh_pages, owner_of, OnlyChanges, OnlyChangesWords};
 
 use blk_base::OutOfMemory;
 use std::alloc::Global;
@@ -57,6 +57,29 @@ impl Pages {
         self.words[frame as usize * FRAME_WORDS + word as usize] = value;
     }
 
+    /// As many words of the frame `frame` as `words` has room for, from the word `word` on: what so many
+    /// reads give.
+    pub fn read_words(&self, frame: u32, word: u32, words: &mut [u32])
+        requires frame_in { frame < 1088 }
+        requires words_in { word + length words.old ≤ 1024 }
+        ensures { words.new ≡ words_of self.now frame word (length words.old) }
+    {
+        let first = frame as usize * FRAME_WORDS + word as usize;
+        words.copy_from_slice(&self.words[first..first + words.len()]);
+    }
+
+    /// Writes these words of the frame `frame`, from the word `word` on, and no other: what so many
+    /// writes make.
+    pub fn write_words(&mut self, frame: u32, word: u32, words: &[u32])
+        requires frame_in { frame < 1088 }
+        requires words_in { word + length words.now ≤ 1024 }
+        ensures value { self.new ≡ with_words self.old frame word words.now }
+        ensures only { OnlyChangesWords self.old self.new frame word words.now }
+    {
+        let first = frame as usize * FRAME_WORDS + word as usize;
+        put(&mut self.words, first, words);
+    }
+
     /// The domain that a frame belongs to: 1 for frames 0 to 1023, 2 for frames 1024 to 1087.
     pub fn owner(frame: u32) -> u16
         requires { frame < 1088 }
@@ -64,6 +87,15 @@ impl Pages {
     {
         if frame < 1024 { 1 } else { 2 }
     }
+}
+
+// Puts these words in a list from a place on.
+fn put(all: &mut [u32], first: usize, words: &[u32])
+    requires { first + length words.now ≤ length all.old }
+    ensures len { length all.new ≡ length all.old }
+    ensures put { all.new ≡ take first all.old ++ (words.now ++ drop (first + length words.now) all.old) }
+{
+    all[first..first + words.len()].copy_from_slice(words);
 }
 
 #[tactic(auto, unfolding(crate::specs::Pages::zero_words))]
