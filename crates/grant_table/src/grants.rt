@@ -13,6 +13,8 @@ use std::alloc::Global;
 use std::marker::Model;
 use xen_pages::Pages;
 
+mod words;
+
 const REFERENCES: usize = 1024;
 
 const ROOM: usize = 8192;

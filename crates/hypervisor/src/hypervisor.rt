@@ -18,6 +18,7 @@ mod front;
 mod keys;
 mod shown;
 mod suspend;
+mod words;
 
 pub use keys::Room;
 pub use shown::{front_access, front_shown};
