@@ -48,6 +48,47 @@ fn each_word_keeps_what_was_last_written(rt: HostRuntime) {
     reads_all(&rt, &pages, KEPT);
 }
 
+fn write_many(rt: &impl Abort, pages: &mut Pages, frame: u32, word: u32, words: &[u32]) {
+    holds(
+        rt,
+        frame < 1088 && word <= 1024 && words.len() <= 1024 - word as usize,
+    );
+    pages.write_words(frame, word, words);
+}
+
+fn read_many(rt: &impl Abort, pages: &Pages, frame: u32, word: u32, words: &mut [u32]) {
+    holds(
+        rt,
+        frame < 1088 && word <= 1024 && words.len() <= 1024 - word as usize,
+    );
+    pages.read_words(frame, word, words);
+}
+
+fn reads_many(rt: &impl Abort, pages: &Pages, frame: u32, word: u32, wanted: [u32; 4]) {
+    let mut found = [9; 4];
+    read_many(rt, pages, frame, word, &mut found);
+    same(rt, found, wanted);
+}
+
+const AROUND: &[(u32, u32, u32)] = &[
+    (4, 1023, 0),
+    (5, 1019, 0),
+    (5, 1020, 21),
+    (5, 1023, 24),
+    (6, 0, 0),
+];
+
+#[test]
+fn many_words_are_written_in_their_places_up_to_the_last_one_of_the_frame(rt: HostRuntime) {
+    let mut pages = Pages::new(rt.alloc()).expect(&rt, "memory");
+    write_many(&rt, &mut pages, 5, 1020, &[21, 22, 23, 24]);
+    reads_all(&rt, &pages, AROUND);
+    write(&rt, &mut pages, 5, 1021, 4294967295);
+    write_many(&rt, &mut pages, 5, 1024, &[]);
+    reads_many(&rt, &pages, 5, 1020, [21, 4294967295, 23, 24]);
+    reads_many(&rt, &pages, 5, 1018, [0, 0, 21, 4294967295]);
+}
+
 fn owner(rt: &impl Abort, frame: u32) -> u16 {
     holds(rt, frame < 1088);
     Pages::owner(frame)
