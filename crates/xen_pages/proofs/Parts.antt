@@ -45,7 +45,7 @@ pub handed_back : (items all : List ℕ) (len : ℕ) → length all ≡ len → 
 handed_back items all len same = ap (λ n. take n (all ++ drop (length all) items)) (sym same) ∙ take-append_seam all (drop (length all) items)
 
 -- a word that isn't among them stays
-stays : (pages : List ℕ) (frame word : ℕ) (words : List ℕ) (j : ℕ) → ¬ ((frame * 1024 + word ≤ j) × (j < frame * 1024 + word + length words)) → slice_index (with_words pages frame word words) j ≡ slice_index pages j
+pub stays : (pages : List ℕ) (frame word : ℕ) (words : List ℕ) (j : ℕ) → ¬ ((frame * 1024 + word ≤ j) × (j < frame * 1024 + word + length words)) → slice_index (with_words pages frame word words) j ≡ slice_index pages j
 stays pages frame word [] j outside = refl
 stays pages frame word (value ∷ rest) j outside =
     stays (with_word pages frame word value) frame (word + 1) rest j (λ within. outside (let low = within.0 in let high = within.1 in (omega arith, omega arith)))

@@ -3,6 +3,8 @@
 //! grant table reads its entries here, and the machine carries out each end's reads and writes here.
 #![tactic(auto)]
 
+mod laws;
 mod pages;
 
+pub use laws::{words_of_a_frame_go_one_by_one, words_of_two_frames_are_apart};
 pub use pages::Pages;
