@@ -229,6 +229,33 @@ impl RingSight {
     pub fn see(&mut self, line: &Line) -> Result<(), OutOfMemory>
         ensures seen { Becomes (seen self.old line.now) result self.old self.new }
     {
+        match line {
+            Line::Move(Move::FrontRead { .. })
+            | Line::Move(Move::FrontWrite { .. })
+            | Line::Move(
+                Move::Read {
+                    who: BackMover::Job(_),
+                    ..
+                },
+            )
+            | Line::Move(
+                Move::Write {
+                    who: BackMover::Job(_),
+                    ..
+                },
+            ) => {
+                self.overrun = None;
+                Ok(())
+            }
+            _ => self.see_any(line),
+        }
+    }
+
+    // One line further, whatever it is. Most lines are accesses that tell nothing of the ring, so
+    // `see` passes over those at once.
+    fn see_any(&mut self, line: &Line) -> Result<(), OutOfMemory>
+        ensures seen { Becomes (seen self.old line.now) result self.old self.new }
+    {
         if is_epoch(line) {
             self.begin();
             return Ok(());

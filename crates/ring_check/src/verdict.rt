@@ -105,15 +105,36 @@ impl RingSight {
         }
     }
 
-    /// Whether the rule on stretches allows the line: the back reads entries word by word, in
-    /// ascending order, only where a request is unconsumed, and makes no other move between.
-    pub fn allows_stretch(&self, line: &Line) -> bool
+    // Whether the rule on stretches allows the line, which reads or writes a word.
+    fn allows_access(&self, line: &Line) -> bool
         ensures { result ≡ allows_stretch self.now line.now }
     {
         let word = self.entry_word(line);
         let shape = self.shape();
         let whole = !is_back_move(line) || word.is_some() || self.is_between();
         self.is_next_read(word, &shape) && whole && is_in_page(self.touched(line))
+    }
+
+    /// Whether the rule on stretches allows the line: the back reads entries word by word, in
+    /// ascending order, only where a request is unconsumed, and makes no other move between.
+    pub fn allows_stretch(&self, line: &Line) -> bool
+        ensures { result ≡ allows_stretch self.now line.now }
+    {
+        match line {
+            Line::Move(
+                Move::Read {
+                    who: BackMover::Back,
+                    ..
+                },
+            )
+            | Line::Move(
+                Move::Write {
+                    who: BackMover::Back,
+                    ..
+                },
+            ) => self.allows_access(line),
+            _ => !is_back_move(line) || self.is_between(),
+        }
     }
 
     /// Whether the rule on overruns allows the line: the line after a read of a producer that
