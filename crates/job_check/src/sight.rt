@@ -3,6 +3,7 @@ ghost use Rattle.std.specs.Prelude.{◌≡◌, find};
 ghost use Rattle.std.specs.Option.{option_copied};
 ghost use Rattle.std.specs.Map.{values_of};
 ghost use Rattle.blk_base.specs.Becomes.{Becomes};
+ghost use Rattle.schedule_text.specs.declared.line.Line.TheVariants as lines;
 ghost use Rattle.job_check.specs.Open.{failed_by, with_sector};
 ghost use Rattle.job_check.specs.Replies.{answers, after_other};
 ghost use Rattle.job_check.specs.State.{JobState, begun_with, no_lines, job_changed, value_seen, job_answered, without_job, after_line, seen};
@@ -175,6 +176,42 @@ impl JobSight {
     /// One line further, where this is kept of the ring before the line. After want of memory all is
     /// as before.
     pub fn see(&mut self, ring: &RingSight, line: &Line) -> Result<(), OutOfMemory>
+        ensures seen { Becomes (seen ring.now self.old line.now) result self.old self.new }
+    {
+        match line {
+            Line::Move(Move::FrontRead { .. }) | Line::Move(Move::FrontWrite { .. }) => {
+                self.replies.pass();
+                self.moved = None;
+                Ok(())
+            }
+            Line::Move(made) => self.see_made(ring, line, made),
+            _ => self.see_any(ring, line),
+        }
+    }
+
+    // One line further, which is a move.
+    fn see_made(&mut self, ring: &RingSight, line: &Line, made: &Move) -> Result<(), OutOfMemory>
+        requires { line.now ≡ lines.Move made.now }
+        ensures seen { Becomes (seen ring.now self.old line.now) result self.old self.new }
+    {
+        match made {
+            Move::Read {
+                who: BackMover::Job(k),
+                value,
+                ..
+            } => {
+                self.read_by_job(*k, made, *value)?;
+                self.replies.pass();
+                self.moved = None;
+                Ok(())
+            }
+            _ => self.see_any(ring, line),
+        }
+    }
+
+    // One line further, whatever it is. Most lines are accesses of the front's, which tell nothing of
+    // jobs, and words that jobs read, so `see` doesn't ask of those what else they may be.
+    fn see_any(&mut self, ring: &RingSight, line: &Line) -> Result<(), OutOfMemory>
         ensures seen { Becomes (seen ring.now self.old line.now) result self.old self.new }
     {
         if is_epoch(line) {

@@ -62,7 +62,7 @@ impl JobSight {
     }
 
     // Takes a word that a job read, if the job is open.
-    fn read_by_job(&mut self, k: u64, made: &Move, value: u32) -> Result<(), OutOfMemory>
+    pub(super) fn read_by_job(&mut self, k: u64, made: &Move, value: u32) -> Result<(), OutOfMemory>
         ensures read { OnOk result (self.new ≡ job_changed self.old k (λ o. with_end self.old.replies.rows (after_word (walked_by o made.now) value))) }
         ensures kept { OnErr result (self.new ≡ self.old) }
     {
