@@ -1,5 +1,5 @@
 // The outline of a report.
-ghost use Rattle.std.specs.Prelude.{◌≡◌, not};
+ghost use Rattle.std.specs.Prelude.{◌≡◌, not, true};
 ghost use Rattle.plain_disk.specs.Honest.{is_honest};
 ghost use Rattle.checked_rules.specs.Lines.{is_begin, shows_moves, is_end, is_move};
 ghost use Rattle.trace_check.specs.Outline.{no_lines, outlined, allows_order};
@@ -80,6 +80,13 @@ impl Outline {
         self.shown = self.shows_after(line);
         self.hostile = self.is_hostile_after(line);
         self.ended = self.ended || is_end(line);
+    }
+
+    /// One line further on, which is a move.
+    pub fn see_move(&mut self)
+        ensures { self.new ≡ record self.old { begun = true } }
+    {
+        self.begun = true;
     }
 
     /// Whether moves are shown in the lines before.

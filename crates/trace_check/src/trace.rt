@@ -1,9 +1,12 @@
 // What a checker keeps of a report, and what it says of the next line.
-ghost use Rattle.std.specs.Prelude.{◌≡◌, IfOk};
-ghost use Rattle.trace_check.specs.Trace.{start, moved, seen, allows_touch, allows_fetch, broken_request, broken_while_honest, broken_where_shown, broken_by};
+ghost use Rattle.std.specs.Prelude.{◌≡◌, IfOk, true};
+ghost use Rattle.memory_check.specs.Verdicts.{touches_a_mapping, answers_map};
+ghost use Rattle.ring_check.specs.Verdict.{allows_stretch};
+ghost use Rattle.job_check.specs.Verdict.{allows_step, allows_data};
+ghost use Rattle.trace_check.specs.Trace.{start, moved, seen, allows_touch, allows_fetch, broken_request, broken_move, broken_while_honest, broken_where_shown, broken_by};
 
 use crate::outline::Outline;
-use blk_base::OutOfMemory;
+use blk_base::{Move, OutOfMemory};
 use checked_rules::Rule;
 use job_check::JobSight;
 use memory_check::Memory;
@@ -106,6 +109,11 @@ impl Trace {
         if self.outline.shows_after(line) {
             self.see_moves(line)?;
         }
+        // A move tells nothing of requests.
+        if let Line::Move(_) = line {
+            self.outline.see_move();
+            return Ok(());
+        }
         if !self.outline.is_hostile_after(line) {
             self.requests.see(line)?;
         }
@@ -131,13 +139,11 @@ impl Trace {
             && self.jobs.allows_reply(&self.ring, line)
     }
 
-    // The first rule on moves that the line breaks, where moves are shown.
-    fn broken_where_shown(&self, line: &Line) -> Option<Rule>
-        ensures { result ≡ broken_where_shown self.now line.now }
+    // The first rule on moves that the line breaks.
+    fn broken_move(&self, line: &Line) -> Option<Rule>
+        ensures { result ≡ broken_move self.now line.now }
     {
-        if !self.outline.is_shown() {
-            None
-        } else if !self.memory.shows_what_is_there(line) {
+        if !self.memory.shows_what_is_there(line) {
             Some(Rule::Coherent)
         } else if !self.allows_touch(line) {
             Some(Rule::Touch)
@@ -147,6 +153,42 @@ impl Trace {
             Some(Rule::Overrun)
         } else {
             None
+        }
+    }
+
+    // The same of a line that is no move of the back's side: only what the line before left open is
+    // asked of it beside memory.
+    fn broken_by_front(&self, line: &Line) -> Option<Rule>
+        requires touches { touches_a_mapping self.now.memory line.now ≡ true }
+        requires maps { answers_map self.now.memory line.now ≡ true }
+        requires stretches { allows_stretch self.now.ring line.now ≡ true }
+        requires steps { allows_step self.now.jobs line.now ≡ true }
+        requires words { allows_data self.now.jobs line.now ≡ true }
+        ensures { result ≡ broken_move self.now line.now }
+    {
+        if !self.memory.shows_what_is_there(line) {
+            Some(Rule::Coherent)
+        } else if !self.jobs.allows_effect(line) || !self.jobs.allows_reply(&self.ring, line) {
+            Some(Rule::Fetch)
+        } else if !self.ring.allows_overrun(line) {
+            Some(Rule::Overrun)
+        } else {
+            None
+        }
+    }
+
+    // The first rule on moves that the line breaks, where moves are shown.
+    fn broken_where_shown(&self, line: &Line) -> Option<Rule>
+        ensures { result ≡ broken_where_shown self.now line.now }
+    {
+        if !self.outline.is_shown() {
+            return None;
+        }
+        match line {
+            Line::Move(Move::FrontRead { .. }) | Line::Move(Move::FrontWrite { .. }) => {
+                self.broken_by_front(line)
+            }
+            _ => self.broken_move(line),
         }
     }
 
