@@ -4,6 +4,7 @@ use Rattle.std.proofs.lemmas.Bool.{cases_lt}
 use Rattle.std.specs.Str.{bytes_eq}
 use Rattle.std.proofs.lemmas.Slice.Eq.{bytes_eq-Decides}
 use Rattle.std.proofs.lemmas.Fmt.{decimal_digit, decimal_step}
+use Rattle.line_text.specs.Numbers.{glyph, hex8}
 use Rattle.std.proofs.lemmas.List.{take_more, take_all, length-drop, take-append-drop}
 
 decimal_more : (n d : ℕ) → 0 < n → d < 10 → n * 10 + d < 2 ^ 64 → decimal (n * 10 + d) ≡ decimal n ++ (48 + d) ∷ []
@@ -36,3 +37,30 @@ head_first text head e =
     let same : take (length head) text ≡ head = (bytes_eq-Decides _ _).0 e in
     let all : take (length text - length head) (drop (length head) text) ≡ drop (length head) text = take_all _ (drop (length head) text) (omega (arith, length-drop (length head) text)) in
     rw all (sym (take-append-drop (length head) text) ∙ ap (λ (front : List ℕ). front ++ drop (length head) text) same)
+
+-- the digits of both halves of a word are the word's
+pub both_halves : (text : List ℕ) (high low : ℕ) → 8 ≤ length text → length text < 9 → high < 65536 → low < 65536
+    → get_or text 0 0 ∷ get_or text 1 0 ∷ get_or text 2 0 ∷ get_or text 3 0 ∷ [] ≡ glyph (high / 4096) ∷ glyph (high / 256 % 16) ∷ glyph (high / 16 % 16) ∷ glyph (high % 16) ∷ []
+    → get_or text 4 0 ∷ get_or text 5 0 ∷ get_or text 6 0 ∷ get_or text 7 0 ∷ [] ≡ glyph (low / 4096) ∷ glyph (low / 256 % 16) ∷ glyph (low / 16 % 16) ∷ glyph (low % 16) ∷ []
+    → text ≡ hex8 (65536 * high + low)
+unfolding hex8
+both_halves (a ∷ b ∷ c ∷ d ∷ e ∷ f ∷ g ∷ h ∷ []) high low le lt small_high small_low front back =
+    let w = 65536 * high + low in
+    let d1 : w / 2 ^ 28 ≡ high / 4096 = omega arith in
+    let d2 : w / 2 ^ 24 % 16 ≡ high / 256 % 16 = omega arith in
+    let d3 : w / 2 ^ 20 % 16 ≡ high / 16 % 16 = omega arith in
+    let d4 : w / 2 ^ 16 % 16 ≡ high % 16 = omega arith in
+    let d5 : w / 2 ^ 12 % 16 ≡ low / 4096 = omega arith in
+    let d6 : w / 2 ^ 8 % 16 ≡ low / 256 % 16 = omega arith in
+    let d7 : w / 16 % 16 ≡ low / 16 % 16 = omega arith in
+    let d8 : w % 16 ≡ low % 16 = omega arith in
+    rw (d1, d2, d3, d4, d5, d6, d7, d8) (ap (λ (x : List ℕ). x ++ e ∷ f ∷ g ∷ h ∷ []) front ∙ ap (λ (y : List ℕ). (glyph (high / 4096) ∷ glyph (high / 256 % 16) ∷ glyph (high / 16 % 16) ∷ glyph (high % 16) ∷ []) ++ y) back)
+both_halves (a ∷ b ∷ c ∷ d ∷ e ∷ f ∷ g ∷ h ∷ i ∷ rest) high low le lt small_high small_low front back = absurd (omega arith)
+both_halves (a ∷ b ∷ c ∷ d ∷ e ∷ f ∷ g ∷ []) high low le lt small_high small_low front back = absurd (omega arith)
+both_halves (a ∷ b ∷ c ∷ d ∷ e ∷ f ∷ []) high low le lt small_high small_low front back = absurd (omega arith)
+both_halves (a ∷ b ∷ c ∷ d ∷ e ∷ []) high low le lt small_high small_low front back = absurd (omega arith)
+both_halves (a ∷ b ∷ c ∷ d ∷ []) high low le lt small_high small_low front back = absurd (omega arith)
+both_halves (a ∷ b ∷ c ∷ []) high low le lt small_high small_low front back = absurd (omega arith)
+both_halves (a ∷ b ∷ []) high low le lt small_high small_low front back = absurd (omega arith)
+both_halves (a ∷ []) high low le lt small_high small_low front back = absurd (omega arith)
+both_halves [] high low le lt small_high small_low front back = absurd (omega arith)

@@ -1,11 +1,9 @@
 // Numbers and words of memory in their one spelling, read from the head of a text at once. Long
 // numbers aren't taken: whoever needs them reads the text another way.
-ghost use Rattle.std.specs.Prelude.{◌≡◌, ◌++◌, ◌∷◌, decimal, IfSome};
-ghost use Rattle.line_text.specs.Numbers.{hex8};
+ghost use Rattle.std.specs.Prelude.{◌≡◌, ◌<◌, ◌/◌, ◌%◌, ◌++◌, ◌∷◌, [], decimal, IfSome};
+ghost use Rattle.line_text.specs.Numbers.{glyph, hex8};
 
-use crate::numbers::hex;
-use crate::words::{are_equal, is};
-use crate::writing::eight;
+use crate::words::is;
 
 /// What follows a text's head; `None` where it begins with another.
 #[inline(always)]
@@ -41,14 +39,38 @@ pub fn number_before(text: &[u8]) -> Option<(u32, &[u8])>
     None
 }
 
+/// The value of a digit of a word; `None` where the byte isn't one.
+fn hex_digit(byte: u8) -> Option<u32>
+    ensures { IfSome result (λ d. (d < 16) × (byte ≡ glyph d)) }
+{
+    match byte {
+        b'0'..=b'9' => Some(u32::from(byte - b'0')),
+        b'a'..=b'f' => Some(u32::from(byte - 87)),
+        _ => None,
+    }
+}
+
+/// The number that four digits of a word say.
+fn four_digits(first: u8, second: u8, third: u8, fourth: u8) -> Option<u32>
+    ensures small { IfSome result (λ n. n < 65536) }
+    ensures digits { IfSome result (λ n. first ∷ second ∷ third ∷ fourth ∷ [] ≡ glyph (n / 4096) ∷ glyph (n / 256 % 16) ∷ glyph (n / 16 % 16) ∷ glyph (n % 16) ∷ []) }
+{
+    let a = hex_digit(first)?;
+    let b = hex_digit(second)?;
+    let c = hex_digit(third)?;
+    let d = hex_digit(fourth)?;
+    Some(4096 * a + 256 * b + 16 * c + d)
+}
+
 /// The word of memory that a whole text says.
+#[tactic(auto, unfolding(crate::specs::Numbers::hex8))]
 pub fn whole_hex(text: &[u8]) -> Option<u32>
     ensures { IfSome result (λ word. text.now ≡ hex8 word) }
 {
-    let word = hex(text);
-    if are_equal(&eight(word), text) {
-        Some(word)
-    } else {
-        None
-    }
+    let [a, b, c, d, e, f, g, h] = *text else {
+        return None;
+    };
+    let high = four_digits(a, b, c, d)?;
+    let low = four_digits(e, f, g, h)?;
+    Some(65536 * high + low)
 }
