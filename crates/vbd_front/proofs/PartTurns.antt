@@ -19,7 +19,6 @@ use Rattle.blk_front.specs.Ask as ring
 use Rattle.blk_front.specs.Keep.{ask_as, step_as}
 use Rattle.blk_front.specs.Part.{sector_part as ring_part_of, HasWritten, HasRead, written_word, all_written, all_read, AllInTurn, IsTellable as IsRingTellable, AreTellable as AreRingTellable, steps_as, AsksWords, AsksEach}
 use Rattle.blk_front.specs.Step.{at}
-use Rattle.blk_front.specs.Step as step_ring
 use Rattle.blk_front.specs.Submit.{unfinished, is_connected}
 use Rattle.blk_front.specs.Suspend.{is_left}
 use Rattle.blk_front.proofs.PartSteps.{at_word, IsWriting, writing, Reads, reading, written_in_turn, read_in_turn}
@@ -27,15 +26,15 @@ use Rattle.xenbus_state.specs.declared.front.FrontBusAsk.{FrontBusAsk}
 use Rattle.xenbus_state.specs.declared.front.FrontBusAsk.TheVariants as bus_ask
 use Rattle.xenbus_state.specs.FrontView.{FrontView}
 use Rattle.xenbus_state.specs.FrontAsk as bus
-use Rattle.vbd_front.specs.View.{View, IsUnkept, is_unoccupied, is_still}
-use Rattle.vbd_front.specs.Ask.{speaks, key_ask, ring_moves, ring_ask, ask_at, ask_of, bus_ask_of, IsAnswer}
-use Rattle.vbd_front.specs.Step.{followed, spoken, ring_step, step_at, step_of}
-use Rattle.vbd_front.specs.Part.{ring_part, sector_part, steps_of, IsTellable, AreTellable}
+use Rattle.vbd_front.specs.View.{View, is_unoccupied, is_still}
+use Rattle.vbd_front.specs.Ask.{speaks, key_ask, ring_moves, bus_ask_of, IsAnswer}
+use Rattle.vbd_front.specs.Part.{ring_part, sector_part}
+use Rattle.vbd_front.specs.Keep.{KeepingView, followed_as, with_ring, IsTellableAs, AreTellableAs}
+use Rattle.vbd_front.specs.Keep as whole
 use Rattle.vbd_front.specs.declared.turn.Turn.{Turn}
 use Rattle.vbd_front.specs.declared.turn.Turn.TheVariants as turn
 use Rattle.vbd_front.specs.Turn.{turn_of}
 use Rattle.vbd_front.proofs.Turns.{silent, is_plain, not_woken}
-use Rattle.vbd_front.proofs.Unkept.{asks_plainly, steps_plainly, step_none}
 
 -- a word of data may be moved at this stage
 abbrev IsOfData : FrontStage → Type 0
@@ -78,15 +77,24 @@ deaf bus_ask.ClosePort stage.ClosePort d m = absurd d
 deaf bus_ask.ClosePort s d m = absurd (cc)
 deaf a s d m = refl
 
-unheard : (a : FrontBusAsk) (later : FrontStage) (idle : Bool) (w : FrontView) (x : FrontAnswer) → is_deaf a ≡ true → is_plain x ≡ true → followed a later idle w x ≡ w
+-- and that kept grants are ended it learns of the last of them alone
+unended : (earlier later : FrontStage) (keeps idle : Bool) (w : FrontView) (x : FrontAnswer) → IsOfData earlier → followed_as bus_ask.EndOtherGrants earlier keeps later idle w x ≡ w
+unended stage.Loop later keeps idle w x d = refl
+unended (stage.Data n) later keeps idle w x d = refl
+unended (stage.ReadData n) later keeps idle w x d = refl
+unended (stage.LeftData n) later keeps idle w x d = refl
+unended s later keeps idle w x d = absurd d
+
+unheard : (a : FrontBusAsk) (earlier later : FrontStage) (keeps idle : Bool) (w : FrontView) (x : FrontAnswer) → IsOfData earlier → is_deaf a ≡ true → is_plain x ≡ true → followed_as a earlier keeps later idle w x ≡ w
 unfolding is_deaf
-unheard (bus_ask.WriteRingWord word) later idle w x d p = absurd (cc)
-unheard (bus_ask.Grant page) later idle w x d p = absurd (cc)
-unheard bus_ask.NewPort later idle w x d p = absurd (cc)
-unheard (bus_ask.EndGrant page) later idle w x d p = absurd (cc)
-unheard bus_ask.ClosePort later idle w x d p = absurd (cc)
-unheard bus_ask.Wait later idle w x d p = not_woken _ idle w x p
-unheard a later idle w x d p = refl
+unheard (bus_ask.WriteRingWord word) earlier later keeps idle w x of_data d p = absurd (cc)
+unheard (bus_ask.Grant page) earlier later keeps idle w x of_data d p = absurd (cc)
+unheard bus_ask.NewPort earlier later keeps idle w x of_data d p = absurd (cc)
+unheard (bus_ask.EndGrant page) earlier later keeps idle w x of_data d p = absurd (cc)
+unheard bus_ask.ClosePort earlier later keeps idle w x of_data d p = absurd (cc)
+unheard bus_ask.EndOtherGrants earlier later keeps idle w x of_data d p = unended earlier later keeps idle w x of_data
+unheard bus_ask.Wait earlier later keeps idle w x of_data d p = not_woken _ idle w x p
+unheard a earlier later keeps idle w x of_data d p = refl
 
 -- an answer that the ring's end may be told is of the ask's kind
 widened : (a : FrontAsk) (x : FrontAnswer) → ring.IsAnswer a x → IsAnswer a x
@@ -100,43 +108,45 @@ record IsMoving (v : View) (a : FrontBusAsk) (r : Ring) (x : FrontAnswer) : Type
   asks : bus_ask_of (record v { ring = r }) ≡ a
   moves : ring_moves a r.stage ≡ true
   staged : IsOfData r.stage
-  unkept : IsUnkept r
   plain : is_plain x ≡ true
 
 module _ (a : FrontBusAsk) (silent : speaks a ≡ false) where
-  one_step : (v : View) (r : Ring) (x : FrontAnswer) → IsMoving v a r x → step_of (record v { ring = r }) x ≡ record v { ring = step_as r x }
-  one_step v r x m =
+  one_step : (k : KeepingView) (r : Ring) (x : FrontAnswer) → IsMoving k.ends a r x → whole.step_as (with_ring k r) x ≡ with_ring k (step_as r x)
+  one_step k r x m =
+      let v : View = k.ends in
       let here : View = record v { ring = r } in
-      let after : Ring = step_ring.step_of r x in
-      ap (λ (b : FrontBusAsk). step_at b here x) m.asks
-      ∙ (ap (λ (b : Bool). if b then spoken here x else ring_step (ring_moves a r.stage) a here x) silent
-      ∙ (ap (λ (b : Bool). ring_step b a here x) m.moves
-      ∙ (ap (λ (w : FrontView). record v { ring = after; bus = w }) (unheard a after.stage (is_unoccupied r) v.bus x (deaf a r.stage m.staged m.moves) m.plain)
-      ∙ ap (λ (s : Ring). record v { ring = s }) (sym (steps_plainly r x m.unkept)))))
+      let after : Ring = step_as r x in
+      ap (λ (b : FrontBusAsk). record k { ends = whole.step_as_at k.keeps b here x }) m.asks
+      ∙ (ap (λ (b : Bool). record k { ends = if b then whole.spoken_as k.keeps here x else whole.ring_step_as (ring_moves a r.stage) k.keeps a here x }) silent
+      ∙ (ap (λ (b : Bool). record k { ends = whole.ring_step_as b k.keeps a here x }) m.moves
+      ∙ ap (λ (w : FrontView). record k { ends = record v { ring = after; bus = w } })
+      (unheard a r.stage after.stage k.keeps (is_unoccupied r) v.bus x m.staged (deaf a r.stage m.staged m.moves) m.plain)))
 
-  one_ask : (v : View) (r : Ring) (x : FrontAnswer) → IsMoving v a r x → ask_of (record v { ring = r }) ≡ ask_as r
-  one_ask v r x m =
+  one_ask : (k : KeepingView) (r : Ring) (x : FrontAnswer) → IsMoving k.ends a r x → whole.ask_as (with_ring k r) ≡ ask_as r
+  one_ask k r x m =
+      let v : View = k.ends in
       let here : View = record v { ring = r } in
-      ap (λ (b : FrontBusAsk). ask_at b here) m.asks
-      ∙ (ap (λ (b : Bool). if b then key_ask a else ring_ask (ring_moves a r.stage) here) silent
-      ∙ (ap (λ (b : Bool). ring_ask b here) m.moves ∙ sym (asks_plainly r m.unkept)))
+      ap (λ (b : FrontBusAsk). whole.ask_as_at b here) m.asks
+      ∙ (ap (λ (b : Bool). if b then key_ask a else whole.ring_ask_as (ring_moves a r.stage) r) silent
+      ∙ ap (λ (b : Bool). whole.ring_ask_as b r) m.moves)
 
   -- so the frontend is as its ring's end alone makes it
-  all_steps : (xs : List FrontAnswer) (v : View) (r : Ring) → AllInTurn (IsMoving v a) step_as r xs → steps_of (record v { ring = r }) xs ≡ record v { ring = steps_as r xs }
-  all_steps [] v r turns = refl
-  all_steps (x ∷ rest) v r turns = ap (λ (w : View). steps_of w rest) (one_step v r x turns.0) ∙ all_steps rest v (step_as r x) turns.1
+  all_steps : (xs : List FrontAnswer) (k : KeepingView) (r : Ring) → AllInTurn (IsMoving k.ends a) step_as r xs → whole.steps_as (with_ring k r) xs ≡ with_ring k (steps_as r xs)
+  all_steps [] k r turns = refl
+  all_steps (x ∷ rest) k r turns = ap (λ (l : KeepingView). whole.steps_as l rest) (one_step k r x turns.0) ∙ all_steps rest k (step_as r x) turns.1
 
-  all_tellable : (xs : List FrontAnswer) (v : View) (r : Ring) → AllInTurn (IsMoving v a) step_as r xs → AllInTurn IsRingTellable step_as r xs → AllInTurn (λ w answer. IsTellable w answer × (w.news ≡ v.news)) step_of (record v { ring = r }) xs
-  all_tellable [] v r turns each = tt
-  all_tellable (x ∷ rest) v r turns each = (
-    ((widened _ x (subst (λ (b : FrontAsk). ring.IsAnswer b x) (sym (one_ask v r x turns.0)) each.0.0), each.0.1), refl),
-    subst (λ (w : View). AllInTurn (λ u answer. IsTellable u answer × (u.news ≡ v.news)) step_of w rest) (sym (one_step v r x turns.0)) (all_tellable rest v (step_as r x) turns.1 each.1),
+  all_tellable : (xs : List FrontAnswer) (k : KeepingView) (r : Ring) → AllInTurn (IsMoving k.ends a) step_as r xs → AllInTurn IsRingTellable step_as r xs
+      → AllInTurn (λ l answer. IsTellableAs l answer × (l.ends.news ≡ k.ends.news)) whole.step_as (with_ring k r) xs
+  all_tellable [] k r turns each = tt
+  all_tellable (x ∷ rest) k r turns each = (
+    ((widened _ x (subst (λ (b : FrontAsk). ring.IsAnswer b x) (sym (one_ask k r x turns.0)) each.0.0), each.0.1), refl),
+    subst (λ (m : KeepingView). AllInTurn (λ l answer. IsTellableAs l answer × (l.ends.news ≡ k.ends.news)) whole.step_as m rest) (sym (one_step k r x turns.0)) (all_tellable rest k (step_as r x) turns.1 each.1),
   )
 
   -- and asks for what its ring's end asks, before each of them
-  later_ask : (xs : List FrontAnswer) (x : FrontAnswer) (v : View) (r : Ring) → AllInTurn (IsMoving v a) step_as r (xs ++ x ∷ []) → ask_of (steps_of (record v { ring = r }) xs) ≡ ask_as (steps_as r xs)
-  later_ask [] x v r turns = one_ask v r x turns.0
-  later_ask (y ∷ rest) x v r turns = ap (λ (w : View). ask_of (steps_of w rest)) (one_step v r y turns.0) ∙ later_ask rest x v (step_as r y) turns.1
+  later_ask : (xs : List FrontAnswer) (x : FrontAnswer) (k : KeepingView) (r : Ring) → AllInTurn (IsMoving k.ends a) step_as r (xs ++ x ∷ []) → whole.ask_as (whole.steps_as (with_ring k r) xs) ≡ ask_as (steps_as r xs)
+  later_ask [] x k r turns = one_ask k r x turns.0
+  later_ask (y ∷ rest) x k r turns = ap (λ (l : KeepingView). whole.ask_as (whole.steps_as l rest)) (one_step k r y turns.0) ∙ later_ask rest x k (step_as r y) turns.1
 
 -- what is known of a part
 part_is : (v : View) (Q : SectorPart → Type 0) → IsSomeAnd (sector_part v) Q → (speaks (bus_ask_of v) ≡ false) × ((ring_moves (bus_ask_of v) v.ring.stage ≡ true) × IsSomeAnd (ring_part_of v.ring) Q)
@@ -177,7 +187,7 @@ deaf_moves bus_ask.Wait (stage.LeftData n) c d = refl
 deaf_moves a s c d = c
 
 -- it moves the first word that is written, and each that comes
-module _ (v : View) (k : ℕ) (unkept : IsUnkept v.ring) (moves : ring_moves (bus_ask_of v) v.ring.stage ≡ true) (has : HasWritten (ring_part_of v.ring) (suc k)) where
+module _ (v : View) (k : ℕ) (moves : ring_moves (bus_ask_of v) v.ring.stage ≡ true) (has : HasWritten (ring_part_of v.ring) (suc k)) where
   to_write : (r : Request) × IsWriting v.ring (written_word v.ring.stage) k r
   to_write = writing v.ring k has
 
@@ -196,26 +206,24 @@ module _ (v : View) (k : ℕ) (unkept : IsUnkept v.ring) (moves : ring_moves (bu
       by_placed (inr is) = busy_asks v (ap is_left is) (ap (λ (s : FrontStage). unfinished (at s v.ring) == 0 && is_still s) is ∙ and-false _)
 
   writes_here : IsMoving v (bus_ask_of v) v.ring Done
-  writes_here = record { asks = refl; moves = moves; staged = write_staged; unkept = unkept; plain = refl }
+  writes_here = record { asks = refl; moves = moves; staged = write_staged; plain = refl }
 
   writes_later : (m : ℕ) → IsMoving v (bus_ask_of v) (at (stage.Data m) v.ring) Done
   writes_later m = record {
     asks = busy_asks (record v { ring = at (stage.Data m) v.ring }) refl (and-false _) ∙ sym write_busy;
     moves = deaf_moves (bus_ask_of v) (stage.Data m) refl (deaf (bus_ask_of v) v.ring.stage write_staged moves);
     staged = tt;
-    unkept = unkept;
     plain = refl;
   }
 
 -- and each that is read
-module _ (v : View) (words : List ℕ) (unkept : IsUnkept v.ring) (moves : ring_moves (bus_ask_of v) v.ring.stage ≡ true) (has : HasRead (ring_part_of v.ring) (length words)) where
+module _ (v : View) (words : List ℕ) (moves : ring_moves (bus_ask_of v) v.ring.stage ≡ true) (has : HasRead (ring_part_of v.ring) (length words)) where
   reads_at : (s : FrontStage) → v.ring.stage ≡ s → ring_moves (bus_ask_of v) s ≡ true → IsRead s → (m word : ℕ) (put : List ℕ) → IsMoving v (bus_ask_of v) (at (at_word s m) (record v.ring { words = put })) (Word word)
   reads_at (stage.ReadData n) is moves_at d m word put = record {
     asks = busy_asks (record v { ring = at (stage.ReadData m) (record v.ring { words = put }) }) refl (and-false _)
         ∙ sym (busy_asks v (ap is_left is) (ap (λ (s : FrontStage). unfinished (at s v.ring) == 0 && is_still s) is ∙ and-false _));
     moves = deaf_moves (bus_ask_of v) (stage.ReadData m) refl (deaf (bus_ask_of v) (stage.ReadData n) tt moves_at);
     staged = tt;
-    unkept = unkept;
     plain = refl;
   }
   reads_at (stage.LeftData n) is moves_at d m word put =
@@ -223,7 +231,6 @@ module _ (v : View) (words : List ℕ) (unkept : IsUnkept v.ring) (moves : ring_
         asks = sym waits;
         moves = ap (λ (a : FrontBusAsk). ring_moves a (stage.LeftData m)) waits;
         staged = tt;
-        unkept = unkept;
         plain = refl;
       }
   reads_at s is moves_at d m word put = absurd d
@@ -241,81 +248,76 @@ module _ (v : View) (words : List ℕ) (unkept : IsUnkept v.ring) (moves : ring_
       by_reading (inr (n, (e, r))) = here (stage.LeftData n) r.stage tt
 
 -- the answers to a part in turn
-written_turns : (v : View) (count : ℕ) → IsUnkept v.ring → HasWritten (sector_part v) count → AllInTurn (IsMoving v (bus_ask_of v)) step_as v.ring (all_written count)
-written_turns v zero unkept has = tt
-written_turns v (suc k) unkept has =
+written_turns : (v : View) (count : ℕ) → HasWritten (sector_part v) count → AllInTurn (IsMoving v (bus_ask_of v)) step_as v.ring (all_written count)
+written_turns v zero has = tt
+written_turns v (suc k) has =
     let is = part_is v (λ (p : SectorPart). IsSome p.value × (suc k ≤ p.count)) has in
-    written_in_turn (IsMoving v (bus_ask_of v)) v.ring (suc k) is.1.1 (writes_here v k unkept is.1.0 is.1.1) (writes_later v k unkept is.1.0 is.1.1)
+    written_in_turn (IsMoving v (bus_ask_of v)) v.ring (suc k) is.1.1 (writes_here v k is.1.0 is.1.1) (writes_later v k is.1.0 is.1.1)
 
-read_turns : (v : View) (words : List ℕ) → IsUnkept v.ring → HasRead (sector_part v) (length words) → AllInTurn (IsMoving v (bus_ask_of v)) step_as v.ring (all_read words)
-read_turns v words unkept has =
+read_turns : (v : View) (words : List ℕ) → HasRead (sector_part v) (length words) → AllInTurn (IsMoving v (bus_ask_of v)) step_as v.ring (all_read words)
+read_turns v words has =
     let is = part_is v (λ (p : SectorPart). (p.value ≡ None) × (length words ≤ p.count)) has in
-    read_in_turn (IsMoving v (bus_ask_of v)) v.ring words is.1.1 (reads_later v words unkept is.1.0 is.1.1)
-
--- a front that keeps no grant keeps none after many answers
-unkept_after : (xs : List FrontAnswer) (r : Ring) → IsUnkept r → IsUnkept (steps_as r xs)
-unkept_after [] r none = none
-unkept_after (x ∷ rest) r none = unkept_after rest (step_as r x) (subst IsUnkept (sym (steps_plainly r x none)) (step_none r x none))
-
-pub still_unkept : (xs : List FrontAnswer) (r after : Ring) → IsUnkept r → after ≡ steps_as r xs → IsUnkept after
-still_unkept xs r after none is = subst IsUnkept (sym is) (unkept_after xs r none)
+    read_in_turn (IsMoving v (bus_ask_of v)) v.ring words is.1.1 (reads_later v words is.1.0 is.1.1)
 
 -- many words were moved by its ring's end
-pub told_written : (v w : View) (after : Ring) (count : ℕ) → w ≡ v → IsUnkept w.ring → HasWritten (sector_part v) count → after ≡ steps_as w.ring (all_written count) → (let told : View = record w { ring = after } in told) ≡ steps_of v (all_written count)
-told_written v w after count same unkept has is =
-    let here : HasWritten (sector_part w) count = subst (λ (x : View). HasWritten (sector_part x) count) (sym same) has in
-    ap (λ (r : Ring). record w { ring = r }) is
-    ∙ (sym (all_steps (bus_ask_of w) (part_is w (λ (p : SectorPart). IsSome p.value × (count ≤ p.count)) here).0 (all_written count) w w.ring (written_turns w count unkept here))
-    ∙ ap (λ (x : View). steps_of x (all_written count)) same)
+pub told_written : (k l : KeepingView) (after : Ring) (count : ℕ) → l ≡ k → HasWritten (sector_part k.ends) count → after ≡ steps_as l.ends.ring (all_written count) → with_ring l after ≡ whole.steps_as k (all_written count)
+told_written k l after count same has is =
+    let here : HasWritten (sector_part l.ends) count = subst (λ (x : KeepingView). HasWritten (sector_part x.ends) count) (sym same) has in
+    ap (with_ring l) is
+    ∙ (sym (all_steps (bus_ask_of l.ends) (part_is l.ends (λ (p : SectorPart). IsSome p.value × (count ≤ p.count)) here).0 (all_written count) l l.ends.ring (written_turns l.ends count here))
+    ∙ ap (λ (x : KeepingView). whole.steps_as x (all_written count)) same)
 
-pub told_read : (v w : View) (after : Ring) (words : List ℕ) → w ≡ v → IsUnkept w.ring → HasRead (sector_part v) (length words) → after ≡ steps_as w.ring (all_read words) → (let told : View = record w { ring = after } in told) ≡ steps_of v (all_read words)
-told_read v w after words same unkept has is =
-    let here : HasRead (sector_part w) (length words) = subst (λ (x : View). HasRead (sector_part x) (length words)) (sym same) has in
-    ap (λ (r : Ring). record w { ring = r }) is
-    ∙ (sym (all_steps (bus_ask_of w) (part_is w (λ (p : SectorPart). (p.value ≡ None) × (length words ≤ p.count)) here).0 (all_read words) w w.ring (read_turns w words unkept here))
-    ∙ ap (λ (x : View). steps_of x (all_read words)) same)
+pub told_read : (k l : KeepingView) (after : Ring) (words : List ℕ) → l ≡ k → HasRead (sector_part k.ends) (length words) → after ≡ steps_as l.ends.ring (all_read words) → with_ring l after ≡ whole.steps_as k (all_read words)
+told_read k l after words same has is =
+    let here : HasRead (sector_part l.ends) (length words) = subst (λ (x : KeepingView). HasRead (sector_part x.ends) (length words)) (sym same) has in
+    ap (with_ring l) is
+    ∙ (sym (all_steps (bus_ask_of l.ends) (part_is l.ends (λ (p : SectorPart). (p.value ≡ None) × (length words ≤ p.count)) here).0 (all_read words) l l.ends.ring (read_turns l.ends words here))
+    ∙ ap (λ (x : KeepingView). whole.steps_as x (all_read words)) same)
 
-pub written_each : (v w : View) (count : ℕ) → w ≡ v → IsUnkept w.ring → HasWritten (sector_part v) count → AreRingTellable w.ring (all_written count) → AreTellable v (all_written count)
-written_each v w count same unkept has each =
-    let here : HasWritten (sector_part w) count = subst (λ (x : View). HasWritten (sector_part x) count) (sym same) has in
-    subst (λ (x : View). AreTellable x (all_written count)) same
-    (all_tellable (bus_ask_of w) (part_is w (λ (p : SectorPart). IsSome p.value × (count ≤ p.count)) here).0 (all_written count) w w.ring (written_turns w count unkept here) each)
+pub written_each : (k l : KeepingView) (count : ℕ) → l ≡ k → HasWritten (sector_part k.ends) count → AreRingTellable l.ends.ring (all_written count) → AreTellableAs k (all_written count)
+written_each k l count same has each =
+    let here : HasWritten (sector_part l.ends) count = subst (λ (x : KeepingView). HasWritten (sector_part x.ends) count) (sym same) has in
+    subst (λ (x : KeepingView). AreTellableAs x (all_written count)) same
+    (all_tellable (bus_ask_of l.ends) (part_is l.ends (λ (p : SectorPart). IsSome p.value × (count ≤ p.count)) here).0 (all_written count) l l.ends.ring (written_turns l.ends count here) each)
 
-pub read_each : (v w : View) (words : List ℕ) → w ≡ v → IsUnkept w.ring → HasRead (sector_part v) (length words) → AreRingTellable w.ring (all_read words) → AreTellable v (all_read words)
-read_each v w words same unkept has each =
-    let here : HasRead (sector_part w) (length words) = subst (λ (x : View). HasRead (sector_part x) (length words)) (sym same) has in
-    subst (λ (x : View). AreTellable x (all_read words)) same
-    (all_tellable (bus_ask_of w) (part_is w (λ (p : SectorPart). (p.value ≡ None) × (length words ≤ p.count)) here).0 (all_read words) w w.ring (read_turns w words unkept here) each)
+pub read_each : (k l : KeepingView) (words : List ℕ) → l ≡ k → HasRead (sector_part k.ends) (length words) → AreRingTellable l.ends.ring (all_read words) → AreTellableAs k (all_read words)
+read_each k l words same has each =
+    let here : HasRead (sector_part l.ends) (length words) = subst (λ (x : KeepingView). HasRead (sector_part x.ends) (length words)) (sym same) has in
+    subst (λ (x : KeepingView). AreTellableAs x (all_read words)) same
+    (all_tellable (bus_ask_of l.ends) (part_is l.ends (λ (p : SectorPart). (p.value ≡ None) × (length words ≤ p.count)) here).0 (all_read words) l l.ends.ring (read_turns l.ends words here) each)
 
 -- what a part says of what is asked
-later_write : (v : View) (k : ℕ) → IsUnkept v.ring → HasWritten (sector_part v) (suc k) → ask_of (steps_of v (all_written k)) ≡ ask_as (steps_as v.ring (all_written k))
-later_write v k unkept has =
-    let next : k + 1 ≡ suc k = omega arith in
-    later_ask (bus_ask_of v) (part_is v (λ (p : SectorPart). IsSome p.value × (suc k ≤ p.count)) has).0 (all_written k) Done v v.ring
-    (subst (λ (l : List FrontAnswer). AllInTurn (IsMoving v (bus_ask_of v)) step_as v.ring l) (sym (replicate-append-replicate k 1 Done ∙ ap (λ n. replicate n Done) next)) (written_turns v (suc k) unkept has))
+later_write : (k : KeepingView) (n : ℕ) → HasWritten (sector_part k.ends) (suc n) → whole.ask_as (whole.steps_as k (all_written n)) ≡ ask_as (steps_as k.ends.ring (all_written n))
+later_write k n has =
+    let v : View = k.ends in
+    let next : n + 1 ≡ suc n = omega arith in
+    later_ask (bus_ask_of v) (part_is v (λ (p : SectorPart). IsSome p.value × (suc n ≤ p.count)) has).0 (all_written n) Done k v.ring
+    (subst (λ (l : List FrontAnswer). AllInTurn (IsMoving v (bus_ask_of v)) step_as v.ring l) (sym (replicate-append-replicate n 1 Done ∙ ap (λ m. replicate m Done) next)) (written_turns v (suc n) has))
 
-later_read : (v : View) (words : List ℕ) → IsUnkept v.ring → HasRead (sector_part v) (length (words ++ 0 ∷ [])) → ask_of (steps_of v (all_read words)) ≡ ask_as (steps_as v.ring (all_read words))
-later_read v words unkept has =
-    later_ask (bus_ask_of v) (part_is v (λ (p : SectorPart). (p.value ≡ None) × (length (words ++ 0 ∷ []) ≤ p.count)) has).0 (all_read words) (Word 0) v v.ring
-    (subst (λ (l : List FrontAnswer). AllInTurn (IsMoving v (bus_ask_of v)) step_as v.ring l) (map-append Word words (0 ∷ [])) (read_turns v (words ++ 0 ∷ []) unkept has))
+later_read : (k : KeepingView) (words : List ℕ) → HasRead (sector_part k.ends) (length (words ++ 0 ∷ [])) → whole.ask_as (whole.steps_as k (all_read words)) ≡ ask_as (steps_as k.ends.ring (all_read words))
+later_read k words has =
+    let v : View = k.ends in
+    later_ask (bus_ask_of v) (part_is v (λ (p : SectorPart). (p.value ≡ None) × (length (words ++ 0 ∷ []) ≤ p.count)) has).0 (all_read words) (Word 0) k v.ring
+    (subst (λ (l : List FrontAnswer). AllInTurn (IsMoving v (bus_ask_of v)) step_as v.ring l) (map-append Word words (0 ∷ [])) (read_turns v (words ++ 0 ∷ []) has))
 
-asks_words : (v : View) (part : SectorPart) (value : Option ℕ) → IsUnkept v.ring → sector_part v ≡ Some part → part.value ≡ value → AsksWords ask_as step_as v.ring part value → AsksWords ask_of step_of v part value
-asks_words v part (Some value) unkept is way asks = λ k less.
-    later_write v k unkept (subst (λ (o : Option SectorPart). HasWritten o (suc k)) (sym is) (ap is_some way, omega arith)) ∙ asks k less
-asks_words v part None unkept is way asks = λ words less.
-    later_read v words unkept (subst (λ (o : Option SectorPart). HasRead o (length (words ++ 0 ∷ []))) (sym is) (way, omega (arith, length-append words (0 ∷ [])))) ∙ asks words less
+asks_words : (k : KeepingView) (part : SectorPart) (value : Option ℕ) → sector_part k.ends ≡ Some part → part.value ≡ value → AsksWords ask_as step_as k.ends.ring part value → AsksWords whole.ask_as whole.step_as k part value
+asks_words k part (Some value) is way asks = λ n less.
+    later_write k n (subst (λ (o : Option SectorPart). HasWritten o (suc n)) (sym is) (ap is_some way, omega arith)) ∙ asks n less
+asks_words k part None is way asks = λ words less.
+    later_read k words (subst (λ (o : Option SectorPart). HasRead o (length (words ++ 0 ∷ []))) (sym is) (way, omega (arith, length-append words (0 ∷ [])))) ∙ asks words less
 
-pub part_asks : (v w : View) (part : Option SectorPart) → w ≡ v → IsUnkept w.ring → part ≡ sector_part v → IfSome part (AsksEach ask_as step_as w.ring) → IfSome part (AsksEach ask_of step_of v)
-part_asks v w part same unkept is asks =
-    subst (λ (x : View). IfSome part (AsksEach ask_of step_of x)) same (by_part part (is ∙ ap sector_part (sym same)) asks)
+pub part_asks : (k l : KeepingView) (part : Option SectorPart) → l ≡ k → part ≡ sector_part k.ends → IfSome part (AsksEach ask_as step_as l.ends.ring) → IfSome part (AsksEach whole.ask_as whole.step_as k)
+part_asks k l part same is asks =
+    subst (λ (x : KeepingView). IfSome part (AsksEach whole.ask_as whole.step_as x)) same (by_part part (is ∙ ap (λ (x : KeepingView). sector_part x.ends) (sym same)) asks)
   where
-    by_part : (o : Option SectorPart) → o ≡ sector_part w → IfSome o (AsksEach ask_as step_as w.ring) → IfSome o (AsksEach ask_of step_of w)
+    by_part : (o : Option SectorPart) → o ≡ sector_part l.ends → IfSome o (AsksEach ask_as step_as l.ends.ring) → IfSome o (AsksEach whole.ask_as whole.step_as l)
     by_part None e a = tt
-    by_part (Some p) e a = asks_words w p p.value unkept (sym e) refl a
+    by_part (Some p) e a = asks_words l p p.value (sym e) refl a
 
 -- whose turn it is says where the ring's end has the move
-pub part_by_turn : (v w : View) (whose : Turn) (moves : Bool) (part : Option SectorPart) → w ≡ v → whose ≡ turn_of v → (whose ≡ turn.Keys → ⊥) → ring_moves (bus_ask_of v) v.ring.stage ≡ moves → part ≡ ring_part moves w.ring → part ≡ sector_part v
-part_by_turn v w whose moves part same known not_keys is found =
-    found ∙ (ap (λ (x : View). ring_part moves x.ring) same
+pub part_by_turn : (k l : KeepingView) (whose : Turn) (moves : Bool) (part : Option SectorPart) → l ≡ k → whose ≡ turn_of k.ends → (whose ≡ turn.Keys → ⊥) → ring_moves (bus_ask_of k.ends) k.ends.ring.stage ≡ moves → part ≡ ring_part moves l.ends.ring → part ≡ sector_part k.ends
+part_by_turn k l whose moves part same known not_keys is found =
+    let v : View = k.ends in
+    found ∙ (ap (λ (x : KeepingView). ring_part moves x.ends.ring) same
     ∙ sym (ap (λ (b : Bool). if b then None else ring_part (ring_moves (bus_ask_of v) v.ring.stage) v.ring) (silent (bus_ask_of v) v.bus.closing (is_connected v.ring.stage) (λ keys. not_keys (known ∙ keys)))
     ∙ ap (λ (b : Bool). ring_part b v.ring) is))

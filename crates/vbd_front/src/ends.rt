@@ -1,17 +1,17 @@
 // Both of the front's ends.
 ghost use Rattle.std.specs.Prelude.{◌≡◌, ◌||◌, ◌≤◌, ◌^◌, None, is_some, IfOk, IfSome, true, false, length};
-ghost use Rattle.blk_front.specs.Ask.{ask_of as ring_ask_of, data_asked, IsAnswer as IsRingAnswer};
-ghost use Rattle.blk_front.specs.Step.{step_of as ring_step_of};
+ghost use Rattle.blk_front.specs.Ask.{data_asked, IsAnswer as IsRingAnswer};
+ghost use Rattle.blk_front.specs.Keep.{ask_as as ring_asked, step_as as ring_stepped};
 ghost use Rattle.blk_front.specs.Submit.{submit_of, unfinished, sectors_owed, is_wait};
 ghost use Rattle.xenbus_state.specs.FrontAsk.{IsAnswer as IsBusAnswer};
-ghost use Rattle.vbd_front.specs.View.{start_of, heard, is_still, is_unoccupied};
-ghost use Rattle.vbd_front.specs.Ask.{bus_ask_of, ring_moves, ask_of, IsAnswer, StaysInMemory};
+ghost use Rattle.vbd_front.specs.View.{is_still, is_unoccupied};
+ghost use Rattle.vbd_front.specs.Ask.{bus_ask_of, ring_moves, IsAnswer, StaysInMemory};
 ghost use Rattle.blk_front.specs.State.{is_open};
 ghost use Rattle.blk_front.specs.Suspend.{is_left};
-ghost use Rattle.vbd_front.specs.Step.{spoken, ring_step, step_of, closes, suspended};
+ghost use Rattle.vbd_front.specs.Keep.{start_as, ask_as, spoken_as, ring_step_as, step_as, closes_as, suspended_as, heard_as, with_ring, steps_as, AreTellableAs};
 ghost use Rattle.vbd_front.specs.Turn.{turn_of};
 ghost use Rattle.blk_front.specs.Part.{HasWritten, HasRead, all_written, all_read, AsksEach, IsWithin};
-ghost use Rattle.vbd_front.specs.Part.{sector_part, steps_of, AreTellable};
+ghost use Rattle.vbd_front.specs.Part.{sector_part};
 
 use crate::news;
 use crate::turn::{self, Turn};
@@ -22,40 +22,41 @@ use std::marker::Model;
 use xenbus_state::{FrontBus, FrontBusAsk, FrontNews};
 
 /// The front's end of the ring, which it makes, serves and leaves as its end of the negotiation
-/// asks for it, and what the negotiation made happen, which is to be told.
+/// asks for it; what the negotiation made happen, which is to be told; and whether the front is to keep
+/// its grants where both ends published that.
 #[derive(Drop)]
 pub struct Ends {
     ring: Front,
     bus: FrontBus,
     news: Option<FrontNews>,
+    keeps: bool,
 }
 
 impl Model for Ends {
-    ghost use Rattle.vbd_front.specs.View.{View, IsUnkept};
+    ghost use Rattle.vbd_front.specs.Keep.{KeepingView};
     ghost use Rattle.vbd_front.specs.Inside.{view_of};
 
-    ghost Value = { View };
+    ghost Value = { KeepingView };
 
     ghost view = { view_of };
-
-    ghost invariant = { λ e. IsUnkept e.ring };
 }
 
 impl Ends {
     /// Ends that set their watch first. It fails only where there is not enough memory.
-    pub fn new(alloc: Global, config: &Config) -> Result<Ends, OutOfMemory>
-        ensures { IfOk result (λ ends. ends ≡ start_of config.now) }
+    pub fn new(alloc: Global, config: &Config, keeps: bool) -> Result<Ends, OutOfMemory>
+        ensures { IfOk result (λ ends. ends ≡ record (start_as config.now) { keeps = keeps }) }
     {
         Ok(Ends {
             ring: Front::new(alloc, config)?,
             bus: FrontBus::new(config),
             news: None,
+            keeps,
         })
     }
 
     /// What the negotiation asks: nothing while data are in hand after a suspend.
     pub fn bus_ask(&self) -> FrontBusAsk
-        ensures { result ≡ bus_ask_of self.now }
+        ensures { result ≡ bus_ask_of self.now.ends }
     {
         match self.ring.stage() {
             FrontStage::LeftData(_) => FrontBusAsk::Wait,
@@ -65,21 +66,21 @@ impl Ends {
 
     /// Whose turn it is.
     pub fn turn(&self) -> Turn
-        ensures { result ≡ turn_of self.now }
+        ensures { result ≡ turn_of self.now.ends }
     {
         turn::turn_of(&self.bus_ask(), &self.bus, &self.ring)
     }
 
     // Whether nothing of a request is left, and no step is begun.
     fn is_unoccupied(&self) -> bool
-        ensures { result ≡ is_unoccupied self.now.ring }
+        ensures { result ≡ is_unoccupied self.now.ends.ring }
     {
         self.ring.owed().0 == 0 && is_still(self.ring.stage())
     }
 
     /// Whether the ring's end has the move, where the negotiation leaves it.
     pub fn ring_moves(&self) -> bool
-        ensures { result ≡ ring_moves (bus_ask_of self.now) self.now.ring.stage }
+        ensures { result ≡ ring_moves (bus_ask_of self.now.ends) self.now.ends.ring.stage }
     {
         match (self.bus_ask(), self.ring.stage()) {
             (FrontBusAsk::WriteRingWord(_), stage) => matches!(stage, FrontStage::RingWord(_)),
@@ -104,9 +105,8 @@ impl Ends {
 
     /// What the ring's end asks.
     #[inline(always)]
-    #[tactic(auto, using(crate::proofs::Unkept::asks_plainly))]
     pub fn ring_ask(&self) -> FrontAsk<'_>
-        ensures value { result ≡ ring_ask_of self.now.ring }
+        ensures value { result ≡ ring_asked self.now.ends.ring }
         ensures within { StaysInMemory result }
     {
         self.ring.ask()
@@ -114,10 +114,9 @@ impl Ends {
 
     /// What the ring's end asks, where it says by itself that this is a word of a request's data.
     #[inline(always)]
-    #[tactic(auto, using(crate::proofs::Unkept::asks_plainly))]
     pub fn data_asked(&self) -> Option<FrontAsk<'_>>
-        ensures value { result ≡ data_asked self.now.ring }
-        ensures asked { IfSome result (λ ask. ask ≡ ring_ask_of self.now.ring) }
+        ensures value { result ≡ data_asked self.now.ends.ring }
+        ensures asked { IfSome result (λ ask. ask ≡ ring_asked self.now.ends.ring) }
         ensures within { IfSome result (λ ask. StaysInMemory ask) }
     {
         self.ring.data_asked()
@@ -125,11 +124,10 @@ impl Ends {
 
     /// The ring's end was answered, of which the negotiation learns nothing.
     #[inline(always)]
-    #[tactic(auto, using(crate::proofs::Unkept::answers_plainly, crate::proofs::Unkept::steps_plainly, crate::proofs::Unkept::step_none))]
     pub fn tell_ring<'a>(&mut self, answer: &FrontAnswer<'a>)
-        requires kind { IsRingAnswer (ring_ask_of self.old.ring) answer.now }
-        requires told { self.old.ring.told ≡ None }
-        ensures { self.new ≡ record self.old { ring = ring_step_of self.old.ring answer.now } }
+        requires kind { IsRingAnswer (ring_asked self.old.ends.ring) answer.now }
+        requires told { self.old.ends.ring.told ≡ None }
+        ensures { self.new ≡ with_ring self.old (ring_stepped self.old.ends.ring answer.now) }
     {
         let _ = self.ring.tell(answer);
     }
@@ -137,10 +135,10 @@ impl Ends {
     /// Answers what is asked, whosever turn it is.
     #[tactic(auto, using(crate::proofs::Turns::ring_answers, crate::proofs::Turns::ring_steps, crate::proofs::Turns::left_steps, crate::proofs::Turns::left_speaks, crate::proofs::Turns::left_answers))]
     pub fn tell<'a>(&mut self, turn: Turn, answer: &FrontAnswer<'a>)
-        requires turn { turn ≡ turn_of self.old }
-        requires kind { IsAnswer (ask_of self.old) answer.now }
-        requires told { self.old.ring.told ≡ None }
-        ensures { self.new ≡ step_of self.old answer.now }
+        requires turn { turn ≡ turn_of self.old.ends }
+        requires kind { IsAnswer (ask_as self.old) answer.now }
+        requires told { self.old.ends.ring.told ≡ None }
+        ensures { self.new ≡ step_as self.old answer.now }
     {
         match turn {
             Turn::Keys => self.take_key(answer),
@@ -151,35 +149,36 @@ impl Ends {
     }
 
     // The negotiation was answered.
-    #[tactic(auto, using(crate::proofs::Unkept::entered_none))]
     fn take_key(&mut self, answer: &FrontAnswer)
-        requires left { is_left self.old.ring.stage ≡ false }
-        requires kind { IsBusAnswer (bus_ask_of self.old) answer.now }
-        ensures { self.new ≡ spoken self.old answer.now }
+        requires left { is_left self.old.ends.ring.stage ≡ false }
+        requires kind { IsBusAnswer (bus_ask_of self.old.ends) answer.now }
+        ensures { self.new ≡ record self.old { ends = spoken_as self.old.keeps self.old.ends answer.now } }
     {
         let idle = self.is_unoccupied();
         let news = news::tell(&mut self.bus, idle, answer);
-        self.news = news::enter(&mut self.ring, news, &self.bus.ask(idle), &self.bus);
+        let offers = news::offers(&self.bus, self.keeps);
+        self.news = news::enter(&mut self.ring, news, &self.bus.ask(idle), &self.bus, offers);
     }
 
     // The ring's end has moved.
-    #[tactic(auto, using(crate::proofs::Turns::heard, crate::proofs::Unkept::answers_plainly, crate::proofs::Unkept::steps_plainly, crate::proofs::Unkept::step_none))]
+    #[tactic(auto, using(crate::proofs::Turns::heard))]
     fn move_ring<'a>(&mut self, answer: &FrontAnswer<'a>)
-        requires left { is_left self.old.ring.stage ≡ false }
-        requires moves { ring_moves (bus_ask_of self.old) self.old.ring.stage ≡ true }
-        requires kind { IsRingAnswer (ring_ask_of self.old.ring) answer.now }
-        requires told { self.old.ring.told ≡ None }
-        ensures { self.new ≡ ring_step true (bus_ask_of self.old) self.old answer.now }
+        requires left { is_left self.old.ends.ring.stage ≡ false }
+        requires moves { ring_moves (bus_ask_of self.old.ends) self.old.ends.ring.stage ≡ true }
+        requires kind { IsRingAnswer (ring_asked self.old.ends.ring) answer.now }
+        requires told { self.old.ends.ring.told ≡ None }
+        ensures { self.new ≡ record self.old { ends = ring_step_as true self.old.keeps (bus_ask_of self.old.ends) self.old.ends answer.now } }
     {
-        let idle = self.is_unoccupied();
+        let (idle, earlier) = (self.is_unoccupied(), self.ring.stage());
         let _ = self.ring.tell(answer);
-        news::follow(&mut self.bus, idle, self.ring.stage(), answer);
+        let stages = (earlier, self.ring.stage());
+        news::follow(&mut self.bus, idle, self.keeps, stages, answer);
     }
 
     // The negotiation alone waited.
     fn take_watch(&mut self, answer: &FrontAnswer)
-        requires { is_left self.old.ring.stage ≡ false }
-        ensures { self.new ≡ ring_step false (bus_ask_of self.old) self.old answer.now }
+        requires { is_left self.old.ends.ring.stage ≡ false }
+        ensures { self.new ≡ record self.old { ends = ring_step_as false self.old.keeps (bus_ask_of self.old.ends) self.old.ends answer.now } }
     {
         let idle = self.is_unoccupied();
         news::wake(&mut self.bus, idle, answer);
@@ -187,9 +186,9 @@ impl Ends {
 
     /// The words of a request's data that it asks for next, up to the last word of their sector.
     pub fn sector_part(&self, turn: Turn) -> Option<SectorPart>
-        requires { turn ≡ turn_of self.now }
-        ensures value { result ≡ sector_part self.now }
-        ensures asked { IfSome result (AsksEach ask_of step_of self.now) }
+        requires { turn ≡ turn_of self.now.ends }
+        ensures value { result ≡ sector_part self.now.ends }
+        ensures asked { IfSome result (AsksEach ask_as step_as self.now) }
         ensures within { IfSome result IsWithin }
     {
         match turn {
@@ -201,40 +200,40 @@ impl Ends {
 
     /// So many of those words were written.
     pub fn tell_written(&mut self, count: u32)
-        requires part { HasWritten (sector_part self.old) count }
-        requires told { self.old.ring.told ≡ None }
-        ensures ends { self.new ≡ steps_of self.old (all_written count) }
-        ensures each { AreTellable self.old (all_written count) }
-        ensures told { self.new.ring.told ≡ None }
-        ensures ring { self.new ≡ record self.old { ring = self.new.ring } }
+        requires part { HasWritten (sector_part self.old.ends) count }
+        requires told { self.old.ends.ring.told ≡ None }
+        ensures ends { self.new ≡ steps_as self.old (all_written count) }
+        ensures each { AreTellableAs self.old (all_written count) }
+        ensures told { self.new.ends.ring.told ≡ None }
+        ensures ring { self.new ≡ with_ring self.old self.new.ends.ring }
     {
         self.ring.tell_written(count);
     }
 
     /// These of them were read.
     pub fn tell_read(&mut self, words: &[u32])
-        requires part { HasRead (sector_part self.old) (length words.now) }
-        requires told { self.old.ring.told ≡ None }
-        ensures ends { self.new ≡ steps_of self.old (all_read words.now) }
-        ensures each { AreTellable self.old (all_read words.now) }
-        ensures ring { self.new ≡ record self.old { ring = self.new.ring } }
+        requires part { HasRead (sector_part self.old.ends) (length words.now) }
+        requires told { self.old.ends.ring.told ≡ None }
+        ensures ends { self.new ≡ steps_as self.old (all_read words.now) }
+        ensures each { AreTellableAs self.old (all_read words.now) }
+        ensures ring { self.new ≡ with_ring self.old self.new.ends.ring }
     {
         self.ring.tell_read(words);
     }
 
     /// The front is asked to close.
-    #[tactic(auto, using(crate::proofs::Unkept::entered_none))]
     pub fn close(&mut self)
-        ensures { self.new ≡ closes self.old }
+        ensures { self.new ≡ closes_as self.old }
     {
         let _ = self.bus.close();
         let news = Some(FrontNews::Closing);
-        self.news = news::enter(&mut self.ring, news, &FrontBusAsk::Wait, &self.bus);
+        let offers = news::offers(&self.bus, self.keeps);
+        self.news = news::enter(&mut self.ring, news, &FrontBusAsk::Wait, &self.bus, offers);
     }
 
     /// Whether the front is neither closed nor broken.
     pub fn is_open(&self) -> bool
-        ensures { result ≡ is_open self.now.ring.stage }
+        ensures { result ≡ is_open self.now.ends.ring.stage }
     {
         !matches!(
             self.ring.stage(),
@@ -243,9 +242,8 @@ impl Ends {
     }
 
     /// The domain was suspended and resumes.
-    #[tactic(auto, using(crate::proofs::Unkept::suspend_none))]
     pub fn suspend(&mut self)
-        ensures { self.new ≡ suspended self.old }
+        ensures { self.new ≡ suspended_as self.old }
     {
         if self.is_open() {
             self.ring.suspend();
@@ -254,19 +252,18 @@ impl Ends {
     }
 
     /// Hands the ring's end a request.
-    #[tactic(auto, using(crate::proofs::Unkept::submit_none))]
     pub fn submit(&mut self, submission: Submission) -> Result<u32, Refusal>
-        ensures answer { result ≡ (submit_of self.old.ring submission).0 }
-        ensures front { self.new ≡ record self.old { ring = (submit_of self.old.ring submission).1 } }
+        ensures answer { result ≡ (submit_of self.old.ends.ring submission).0 }
+        ensures front { self.new ≡ with_ring self.old (submit_of self.old.ends.ring submission).1 }
     {
         self.ring.submit(submission)
     }
 
     /// Whether the ring's end asks for nothing but an event.
     #[inline(always)]
-    #[tactic(auto, using(crate::proofs::Turns::idle_or_led, crate::proofs::Unkept::idles_plainly))]
+    #[tactic(auto, using(crate::proofs::Turns::idle_or_led))]
     pub fn ring_waits(&self) -> bool
-        ensures { result ≡ is_wait (ring_ask_of self.now.ring) }
+        ensures { result ≡ is_wait (ring_asked self.now.ends.ring) }
     {
         self.ring.idle()
             || matches!(
@@ -277,8 +274,8 @@ impl Ends {
 
     /// How many requests are unfinished, and how many sectors they move.
     pub fn owed(&self) -> (u32, u64)
-        ensures requests { result.0 ≡ unfinished self.now.ring }
-        ensures sectors { result.1 ≡ sectors_owed self.now.ring }
+        ensures requests { result.0 ≡ unfinished self.now.ends.ring }
+        ensures sectors { result.1 ≡ sectors_owed self.now.ends.ring }
         ensures few { result.0 ≤ 512 }
         ensures short { result.1 ≤ 3939840 }
     {
@@ -287,14 +284,14 @@ impl Ends {
 
     /// The first index of its ring.
     pub fn start(&self) -> u32
-        ensures { result ≡ self.now.ring.start }
+        ensures { result ≡ self.now.ends.ring.start }
     {
         self.ring.start()
     }
 
     /// How many pages its ring has.
     pub fn ring_pages(&self) -> u32
-        ensures value { result ≡ 2 ^ self.now.ring.shape.order }
+        ensures value { result ≡ 2 ^ self.now.ends.ring.shape.order }
         ensures few { result ≤ 16 }
     {
         self.ring.pages()
@@ -303,16 +300,16 @@ impl Ends {
     /// Whether something is left to tell.
     #[inline(always)]
     pub fn has_told(&self) -> bool
-        ensures { result ≡ (is_some self.now.ring.told || is_some self.now.news) }
+        ensures { result ≡ (is_some self.now.ends.ring.told || is_some self.now.ends.news) }
     {
         self.ring.has_told() || self.news.is_some()
     }
 
     /// What happened at the ring, and what the negotiation made happen, once.
     pub fn take_told(&mut self) -> (Option<Told>, Option<FrontNews>)
-        ensures told { result.0 ≡ self.old.ring.told }
-        ensures news { result.1 ≡ self.old.news }
-        ensures taken { self.new ≡ heard self.old }
+        ensures told { result.0 ≡ self.old.ends.ring.told }
+        ensures news { result.1 ≡ self.old.ends.news }
+        ensures taken { self.new ≡ heard_as self.old }
     {
         (self.ring.take_told(), self.news.take())
     }

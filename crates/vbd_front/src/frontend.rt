@@ -1,4 +1,4 @@
-// The frontend.
+// The frontend that keeps no grants.
 ghost use Rattle.std.specs.Prelude.{◌≡◌, ◌||◌, ◌≤◌, ◌^◌, None, is_some, IfOk, IfSome, IsOk, length};
 ghost use Rattle.blk_front.specs.Submit.{submit_of, unfinished, sectors_owed};
 ghost use Rattle.vbd_front.specs.View.{start_of, heard};
@@ -9,35 +9,29 @@ ghost use Rattle.blk_front.specs.Part.{HasWritten, HasRead, all_written, all_rea
 ghost use Rattle.vbd_front.specs.Part.{sector_part, steps_of, AreTellable};
 ghost use Rattle.vbd_front.specs.Step.{step_of, closes, suspended};
 
-use crate::ends::Ends;
-use crate::key::Key;
-use crate::turn::Turn;
+use crate::keeping::KeepingFrontend;
 use blk_base::{Config, Endpoint, FrontAnswer, FrontAsk, OutOfMemory, Refusal, Submission};
 use blk_front::{SectorPart, Told};
 use std::alloc::Global;
 use std::marker::Model;
 use xenbus_state::FrontNews;
 
-/// The front end of a block device: its end of a ring, which it makes, serves and leaves
-/// as the negotiation with the back asks for it. To contracts it is both ends; whose turn it is,
-/// and the path and the text of a key that is asked for, are found where they may change. After `new`
-/// it takes no memory.
+/// The front end of a block device, likewise, that never keeps a grant, whatever its back offers: that of
+/// the machine of both domains. To contracts it is both ends.
 #[derive(Drop)]
 pub struct Frontend {
-    ends: Ends,
-    turn: Turn,
-    key: Key,
+    front: KeepingFrontend,
 }
 
 impl Model for Frontend {
     ghost use Rattle.vbd_front.specs.View.{View};
-    ghost use Rattle.vbd_front.specs.Sound.{IsSound};
+    ghost use Rattle.vbd_front.specs.Keep.{IsPlain};
 
     ghost Value = { View };
 
-    ghost view = { λ f. f.ends };
+    ghost view = { λ f. f.front.ends };
 
-    ghost invariant = { IsSound };
+    ghost invariant = { λ f. IsPlain f.front };
 }
 
 impl Frontend {
@@ -45,64 +39,55 @@ impl Frontend {
     pub fn new(alloc: Global, config: &Config) -> Result<Frontend, OutOfMemory>
         ensures { IfOk result (λ f. f ≡ start_of config.now) }
     {
-        let ends = Ends::new(alloc, config)?;
-        let turn = ends.turn();
-        let key = Key::of(&ends.bus_ask());
-        Ok(Frontend { ends, turn, key })
+        let front = KeepingFrontend::of(alloc, config, false)?;
+        Ok(Frontend { front })
     }
 
     /// Hands the ring's end a request, and answers its number, one more than the last. A refusal is
     /// the first that applies, exactly where it does, and changes nothing. It takes no memory.
+    #[tactic(auto, using(crate::proofs::Unkept::handed_none))]
     pub fn submit(&mut self, submission: Submission) -> Result<u32, Refusal>
         ensures answer { result ≡ (submit_of self.old.ring submission).0 }
         ensures front { self.new ≡ record self.old { ring = (submit_of self.old.ring submission).1 } }
     {
-        let answer = self.ends.submit(submission);
-        self.turn = self.ends.turn();
-        self.key = Key::of(&self.ends.bus_ask());
-        answer
+        self.front.submit(submission)
     }
 
     /// The front is to close: it takes no more requests, and closes once it has finished those that it
     /// has. Where it closes already, or is closed or broken, nothing happens. What the negotiation made
     /// happen before is to be told first, so that none of it is lost.
+    #[tactic(auto, using(crate::proofs::Unkept::closed_none))]
     pub fn close(&mut self)
         requires told { self.old.news ≡ None }
         ensures { self.new ≡ closes self.old }
     {
-        self.ends.close();
-        self.turn = self.ends.turn();
-        self.key = Key::of(&self.ends.bus_ask());
+        self.front.close();
     }
 
     /// Whether it is neither closed nor broken.
     pub fn is_open(&self) -> bool
         ensures { result ≡ is_open self.now.ring.stage }
     {
-        self.ends.is_open()
+        self.front.is_open()
     }
 
     /// The domain was suspended and resumes: the front negotiates anew, and then issues each request
     /// whose answer wasn't told again, in order of number. The data of a read whose answer was told
     /// are told before anything else. On a closed or broken front nothing happens. It takes no memory.
+    #[tactic(auto, using(crate::proofs::Unkept::suspended_none))]
     pub fn suspend(&mut self)
         ensures { self.new ≡ suspended self.old }
     {
-        self.ends.suspend();
-        self.turn = self.ends.turn();
-        self.key = Key::of(&self.ends.bus_ask());
+        self.front.suspend();
     }
 
     /// Whether it asks for nothing but an event or a watch.
     #[inline(always)]
-    #[tactic(auto, using(crate::proofs::Turns::made_asks))]
+    #[tactic(auto, using(crate::proofs::Unkept::waits_plainly))]
     pub fn waits(&self) -> bool
         ensures { result ≡ is_waiting self.now }
     {
-        match self.turn {
-            Turn::Ring => self.ends.ring_waits(),
-            _ => self.waits_by_turn(),
-        }
+        self.front.waits()
     }
 
     /// How many requests are unfinished, and how many sectors they move.
@@ -112,14 +97,14 @@ impl Frontend {
         ensures few { result.0 ≤ 512 }
         ensures short { result.1 ≤ 3939840 }
     {
-        self.ends.owed()
+        self.front.owed()
     }
 
     /// The first index of its ring.
     pub fn start(&self) -> u32
         ensures { result ≡ self.now.ring.start }
     {
-        self.ends.start()
+        self.front.start()
     }
 
     /// How many pages its ring has.
@@ -127,7 +112,7 @@ impl Frontend {
         ensures value { result ≡ 2 ^ self.now.ring.shape.order }
         ensures few { result ≤ 16 }
     {
-        self.ends.ring_pages()
+        self.front.ring_pages()
     }
 
     /// Whether something is left to tell.
@@ -135,7 +120,7 @@ impl Frontend {
     pub fn has_told(&self) -> bool
         ensures { result ≡ (is_some self.now.ring.told || is_some self.now.news) }
     {
-        self.ends.has_told()
+        self.front.has_told()
     }
 
     /// What happened at the ring in the last move, and what the negotiation made happen, once; `None`
@@ -145,24 +130,19 @@ impl Frontend {
         ensures news { result.1 ≡ self.old.news }
         ensures taken { self.new ≡ heard self.old }
     {
-        self.ends.take_told()
+        self.front.take_told()
     }
-}
 
-impl Frontend {
     /// What it asks where that is a word of a request's data, as most of its moves are. `None` elsewhere, and where
     /// `blk_front: Front::data_asked` leaves a word to `ask`.
     #[inline(always)]
-    #[tactic(auto, using(crate::proofs::Turns::made_asks))]
+    #[tactic(auto, using(crate::proofs::Unkept::asks_as_plain))]
     pub fn data_asked(&self) -> Option<FrontAsk<'_>>
         ensures value { result ≡ data_asked self.now }
         ensures asked { IfSome result (λ ask. ask ≡ ask_of self.now) }
         ensures within { IfSome result (λ ask. StaysInMemory ask) }
     {
-        match self.turn {
-            Turn::Ring => self.ends.data_asked(),
-            _ => None,
-        }
+        self.front.data_asked()
     }
 
     /// The words of a request's data that it asks for next, one after another, up to the last word of their sector: of a
@@ -172,7 +152,7 @@ impl Frontend {
         ensures asked { IfSome result (AsksEach ask_of step_of self.now) }
         ensures within { IfSome result IsWithin }
     {
-        self.ends.sector_part(self.turn)
+        self.front.sector_part()
     }
 
     /// So many of the words that it asks for were written: as many single answers, one after another. Nothing is told.
@@ -184,9 +164,7 @@ impl Frontend {
         ensures told { self.new.ring.told ≡ None }
         ensures ring { self.new ≡ record self.old { ring = self.new.ring } }
     {
-        self.ends.tell_written(count);
-        self.turn = self.ends.turn();
-        self.key = Key::of(&self.ends.bus_ask());
+        self.front.tell_written(count);
     }
 
     /// These of the words that it asks for were read: as many single answers, one after another. A sector is told after
@@ -198,43 +176,7 @@ impl Frontend {
         ensures each { AreTellable self.old (all_read words.now) }
         ensures ring { self.new ≡ record self.old { ring = self.new.ring } }
     {
-        self.ends.tell_read(words);
-        self.turn = self.ends.turn();
-        self.key = Key::of(&self.ends.bus_ask());
-    }
-
-    // Whether it asks for nothing but an event or a watch, whosever turn it is.
-    #[inline(never)]
-    fn waits_by_turn(&self) -> bool
-        ensures { result ≡ is_waiting self.now }
-    {
-        matches!(self.ask_by_turn(), FrontAsk::Wait)
-    }
-
-    // What is asked, whosever turn it is.
-    #[inline(never)]
-    #[tactic(auto, using(crate::proofs::Turns::ring_asks))]
-    fn ask_by_turn(&self) -> FrontAsk<'_>
-        ensures value { result ≡ ask_of self.now }
-        ensures within { StaysInMemory result }
-    {
-        match self.turn {
-            Turn::Keys => self.key.lend(&self.ends.bus_ask()),
-            _ if self.ends.ring_moves() => self.ends.ring_ask(),
-            _ => FrontAsk::Wait,
-        }
-    }
-
-    // Answers what is asked, whosever turn it is.
-    #[inline(never)]
-    fn tell_by_turn<'a>(&mut self, answer: &FrontAnswer<'a>)
-        requires kind { IsAnswer (ask_of self.old) answer.now }
-        requires told { self.old.ring.told ≡ None }
-        ensures { self.new ≡ step_of self.old answer.now }
-    {
-        self.ends.tell(self.turn, answer);
-        self.turn = self.ends.turn();
-        self.key = Key::of(&self.ends.bus_ask());
+        self.front.tell_read(words);
     }
 }
 
@@ -251,32 +193,20 @@ impl<'a> Endpoint<'a> for Frontend {
     ghost MayTell = { λ front answer. IsAnswer (ask_of front) answer × (front.ring.told ≡ None) };
 
     #[inline(always)]
-    #[tactic(auto, using(crate::proofs::Turns::made_asks))]
+    #[tactic(auto, using(crate::proofs::Unkept::asks_as_plain))]
     fn ask(&'a self) -> FrontAsk<'a>
         ensures value { result ≡ ask_of self.now }
         ensures within { StaysInMemory result }
     {
-        // Most moves are of the ring's end, once it is made.
-        match self.turn {
-            Turn::Ring => self.ends.ring_ask(),
-            _ => self.ask_by_turn(),
-        }
+        self.front.ask()
     }
 
     #[inline(always)]
-    #[tactic(auto, using(crate::proofs::Turns::made_answers, crate::proofs::Turns::made_steps))]
     fn tell(&mut self, answer: &FrontAnswer<'a>) -> Result<(), OutOfMemory>
         requires { IsAnswer (ask_of self.old) answer.now × (self.old.ring.told ≡ None) }
         ensures completed { self.new ≡ step_of self.old answer.now }
         ensures takes_no_memory { IsOk result }
     {
-        // The negotiation learns nothing of the moves of a ring that is made, but of a watch.
-        match (self.turn, answer) {
-            (Turn::Ring, FrontAnswer::Event | FrontAnswer::Done | FrontAnswer::Word(_)) => {
-                self.ends.tell_ring(answer);
-            }
-            _ => self.tell_by_turn(answer),
-        }
-        Ok(())
+        self.front.tell(answer)
     }
 }

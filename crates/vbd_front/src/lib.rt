@@ -5,8 +5,10 @@
 
 mod ends;
 mod frontend;
+mod keeping;
 mod key;
 mod news;
 mod turn;
 
 pub use frontend::Frontend;
+pub use keeping::KeepingFrontend;

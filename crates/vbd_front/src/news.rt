@@ -3,7 +3,8 @@ ghost use Rattle.std.specs.Prelude.{◌≡◌};
 ghost use Rattle.xenbus_state.specs.FrontAsk.{ask_of, IsAnswer};
 ghost use Rattle.xenbus_state.specs.FrontStep.{news_of};
 ghost use Rattle.xenbus_state.specs.FrontView.{ring_order};
-ghost use Rattle.vbd_front.specs.Step.{bus_told, offers_of, state_of_news, states_entered, all_entered, news_told, followed, waited, IsHeard};
+ghost use Rattle.vbd_front.specs.Step.{bus_told, state_of_news, states_entered, all_entered, news_told, followed, waited, IsHeard};
+ghost use Rattle.vbd_front.specs.Keep.{offers_as, followed_as};
 
 use blk_base::FrontAnswer;
 use blk_front::{Front, FrontStage, FrontState, Offers};
@@ -24,10 +25,10 @@ pub fn tell(bus: &mut FrontBus, idle: bool, answer: &FrontAnswer) -> Option<Fron
 }
 
 /// The disk's sectors and whether it is read-only, what the back serves beside reads and writes, and
-/// how many segments it takes in indirect pages, as the negotiation read it. This front doesn't offer
-/// to keep grants yet.
-pub fn offers(bus: &FrontBus) -> Offers
-    ensures { result ≡ offers_of bus.now }
+/// how many segments it takes in indirect pages, as the negotiation read it; and whether grants are kept,
+/// by a front that is to keep them.
+pub fn offers(bus: &FrontBus, keeps: bool) -> Offers
+    ensures { result ≡ offers_as keeps bus.now }
 {
     let disk = bus.disk();
     let features = bus.features();
@@ -38,7 +39,7 @@ pub fn offers(bus: &FrontBus) -> Offers
         flush: features.flush,
         discard: features.discard,
         indirect: features.indirect,
-        persistent: false,
+        persistent: keeps && bus.keeps_grants(),
     }
 }
 
@@ -50,12 +51,13 @@ pub fn enter(
     news: Option<FrontNews>,
     next: &FrontBusAsk,
     bus: &FrontBus,
+    offers: Offers,
 ) -> Option<FrontNews>
-    ensures ring { ring.new ≡ all_entered (states_entered (offers_of bus.now) news next.now (ring_order bus.now)) ring.old }
-    ensures told { result ≡ news_told (offers_of bus.now) news ring.old }
+    ensures ring { ring.new ≡ all_entered (states_entered offers news next.now (ring_order bus.now)) ring.old }
+    ensures told { result ≡ news_told offers news ring.old }
 {
     let told = match news {
-        Some(news) if ring.enter(state_of(offers(bus), news)) => Some(news),
+        Some(news) if ring.enter(state_of(offers, news)) => Some(news),
         _ => None,
     };
     match next {
@@ -82,9 +84,30 @@ pub fn state_of(offers: Offers, news: FrontNews) -> FrontState
     }
 }
 
-/// The ring's end has moved to this stage. The negotiation learns it where it asked for what is done
-/// now, or where a watch was taken and the ring isn't broken.
-pub fn follow(bus: &mut FrontBus, idle: bool, later: FrontStage, answer: &FrontAnswer)
+/// The ring's end has moved from the first of these stages to the second. A front that keeps grants ends
+/// them after the ring's, and the negotiation learns once the last of them is ended.
+pub fn follow(
+    bus: &mut FrontBus,
+    idle: bool,
+    keeps: bool,
+    stages: (FrontStage, FrontStage),
+    answer: &FrontAnswer,
+)
+    requires { IsHeard (ask_of bus.old idle) answer.now }
+    ensures { bus.new ≡ followed_as (ask_of bus.old idle) stages.0 keeps stages.1 idle bus.old answer.now }
+{
+    match (bus.ask(idle), stages.0, keeps, stages.1) {
+        (FrontBusAsk::EndGrant(_), FrontStage::RingEnd(..), true, FrontStage::KeptRead(_))
+        | (FrontBusAsk::EndOtherGrants, FrontStage::KeptEnd(..), true, FrontStage::ClosePort) => {
+            let _ = bus.tell(idle, &FrontAnswer::Done);
+        }
+        (_, _, _, later) => learn(bus, idle, later, answer),
+    }
+}
+
+// The ring's end has moved to this stage. The negotiation learns it where it asked for what is done
+// now, or where a watch was taken and the ring isn't broken.
+fn learn(bus: &mut FrontBus, idle: bool, later: FrontStage, answer: &FrontAnswer)
     requires { IsHeard (ask_of bus.old idle) answer.now }
     ensures { bus.new ≡ followed (ask_of bus.old idle) later idle bus.old answer.now }
 {

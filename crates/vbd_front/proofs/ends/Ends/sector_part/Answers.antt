@@ -9,7 +9,7 @@ returns-in_default c =
     let value = part_by_turn c.args.self.now (view_of c.self.inside) c.args.turn true c.sector_part.result c.self.view_is c.requires c.in_default.not-Keys (sym c.ring_moves.ensures ∙ c.if-ring_moves.true) c.sector_part.ensures.value in
     record {
       value = value;
-      asked = part_asks c.args.self.now (view_of c.self.inside) c.sector_part.result c.self.view_is c.self.invariant value c.sector_part.ensures.asked;
+      asked = part_asks c.args.self.now (view_of c.self.inside) c.sector_part.result c.self.view_is value c.sector_part.ensures.asked;
       within = c.sector_part.ensures.within;
     }
 

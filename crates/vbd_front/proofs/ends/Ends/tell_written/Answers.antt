@@ -1,13 +1,9 @@
-use Rattle.blk_front.specs.Part.{all_written}
 use Rattle.vbd_front.specs.Inside.{view_of}
-use Rattle.vbd_front.proofs.PartTurns.{still_unkept, told_written, written_each}
+use Rattle.vbd_front.proofs.PartTurns.{told_written, written_each}
 use Rattle.vbd_front.proofs.ends.Ends.tell_written.Goals as goal
 
-pub invariant_of-self : goal.invariant_of-self
-invariant_of-self c = still_unkept (all_written c.args.count) c.self.inside.ring c.tell_written.new.self c.self.invariant c.tell_written.ensures.front
-
 pub returns-clause-ends : goal.returns-clause-ends
-returns-clause-ends c = told_written c.args.self.now (view_of c.self.inside) c.tell_written.new.self c.args.count c.self.view_is c.self.invariant c.requires.part c.tell_written.ensures.front
+returns-clause-ends c = told_written c.args.self.now (view_of c.self.inside) c.tell_written.new.self c.args.count c.self.view_is c.requires.part c.tell_written.ensures.front
 
 pub returns-clause-each : goal.returns-clause-each
-returns-clause-each c = written_each c.args.self.now (view_of c.self.inside) c.args.count c.self.view_is c.self.invariant c.requires.part c.tell_written.ensures.each
+returns-clause-each c = written_each c.args.self.now (view_of c.self.inside) c.args.count c.self.view_is c.requires.part c.tell_written.ensures.each

@@ -1,13 +1,15 @@
-use Rattle.std.proofs.Common.{◌≡◌, subst}
-use Rattle.xenbus_state.specs.declared.front.FrontBusAsk.{FrontBusAsk}
-use Rattle.vbd_front.specs.Ask.{key_ask}
-use Rattle.vbd_front.specs.Turn.{lent_ask}
-use Rattle.vbd_front.proofs.Turns.{keeps_turn, keeps_ask}
+use Rattle.std.proofs.Common.{◌∙◌, ap}
+use Rattle.vbd_front.specs.View.{View}
+use Rattle.vbd_front.specs.Step.{step_of}
+use Rattle.vbd_front.proofs.Unkept.{answers_as_plain, stepped}
 use Rattle.vbd_front.proofs.frontend.FrontendEndpoint.tell.Goals as goal
 
+pub tell-requires : goal.tell-requires
+tell-requires c = let may = rw (← c.self.view_is) at c.requires in (answers_as_plain c.self.inside.front c.args.answer.now c.self.invariant may.0, may.1)
+
 pub invariant_of-self : goal.invariant_of-self
-invariant_of-self c = record {
-  turn = keeps_turn c.self.inside.turn c.self.inside.ends c.tell_ring.new.self c.args.answer.now c.in-Ring-Event.is-0 c.self.invariant.turn c.tell_ring.ensures;
-  lent = subst (λ (a : FrontBusAsk). lent_ask a c.self.inside.key.path c.self.inside.key.text ≡ key_ask a)
-      (keeps_ask c.self.inside.turn c.self.inside.ends c.tell_ring.new.self c.args.answer.now c.in-Ring-Event.is-0 c.self.invariant.turn c.tell_ring.ensures) c.self.invariant.lent;
-}
+invariant_of-self c = (stepped c.self.inside.front c.tell.new.self c.args.answer.now c.self.invariant c.tell.ensures.completed).plain
+
+pub returns-clause-completed : goal.returns-clause-completed
+returns-clause-completed c =
+    (stepped c.self.inside.front c.tell.new.self c.args.answer.now c.self.invariant c.tell.ensures.completed).is ∙ ap (λ (v : View). step_of v c.args.answer.now) c.self.view_is
