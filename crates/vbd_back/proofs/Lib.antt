@@ -1,4 +1,5 @@
 mod Settling
 pub mod Turns
+mod Plain
 mod Open
 mod Parts

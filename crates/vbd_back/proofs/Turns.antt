@@ -1,5 +1,5 @@
 -- Whose turn it is: what is asked and done then is what the backend asks and does.
-use Rattle.std.proofs.Common.{◌≡◌, Bool, true, false, if◌then◌else◌, List, [], ◌∷◌, refl, sym, subst, ap, ◌∙◌}
+use Rattle.std.proofs.Common.{◌≡◌, ℕ, Bool, true, false, if◌then◌else◌, List, [], ◌∷◌, refl, sym, subst, ap, ◌∙◌}
 use Rattle.std.specs.Prelude.{Option, Some, None, is_some, ◌==◌}
 use Rattle.blk_base.specs.declared.parts.Mapping.{Mapping}
 use Rattle.blk_base.specs.declared.ask.BackAsk.{BackAsk}
@@ -14,7 +14,7 @@ use Rattle.blk_back.specs.declared.stage.BackStage.TheVariants as stage
 use Rattle.blk_base.specs.declared.halt.Halt.{Halt}
 use Rattle.blk_back.specs.View as ring
 use Rattle.blk_back.specs.Ask as ring_ask
-use Rattle.blk_back.specs.Step as step_ring
+use Rattle.blk_back.specs.Keeping as keeping
 use Rattle.blk_back.specs.Hands.{hands_of}
 use Rattle.blk_back.proofs.Hands.{hands_after, halted_hands, attached_hands}
 use Rattle.xenbus_state.specs.declared.table.BackHalt.{BackHalt}
@@ -26,7 +26,8 @@ use Rattle.vbd_back.specs.declared.turn.Turn.{Turn}
 use Rattle.vbd_back.specs.declared.turn.Turn.TheVariants as turn
 use Rattle.vbd_back.specs.View.{View, both}
 use Rattle.vbd_back.specs.Ask.{bus_ask_of, bus_moves, key_ask, ring_moves, ring_ask, ask_at, ask_of, IsAnswer}
-use Rattle.vbd_back.specs.Step.{ring_halt, shape_read, reads_layout, ring_led, bus_halted, settled, halt_of, spoken, woken, caught_up, ring_step, step_at, step_of, IsHeard, is_plain}
+use Rattle.vbd_back.specs.Step.{ring_halt, shape_read, reads_layout, ring_led, bus_halted, settled, halt_of, spoken, woken, caught_up, ring_step, step_of, IsHeard, is_plain}
+use Rattle.vbd_back.specs.Keeping.{KeepingView, spoken_keeping, ring_step_keeping, step_keeping_at, step_keeping}
 use Rattle.vbd_back.specs.Turn.{turn_left, turn_at, turn_of}
 use Rattle.vbd_back.proofs.Settling.{settled_waits}
 
@@ -81,10 +82,10 @@ answered a given n h = h
 pub ring_answers : (v : View) (given : BackAnswer) → (turn_of v ≡ turn.Keys → ⊥) → ring_moves (bus_ask_of v) v.ring.stage ≡ true → IsAnswer (ask_of v) given → ring_ask.IsAnswer (ring_ask.ask_of v.ring) given
 ring_answers v given n m h = answered (ring_ask.ask_of v.ring) given (none_at v.ring.stage v.ring) (subst (λ (a : BackAsk). IsAnswer a given) (ring_asks v n m) h)
 
-pub ring_steps : (v : View) (x : BackAnswer) → (turn_of v ≡ turn.Keys → ⊥) → ring_moves (bus_ask_of v) v.ring.stage ≡ true → step_of v x ≡ ring_step true (bus_ask_of v) v x
-ring_steps v x n m =
-    ap (λ (b : Bool). if b then spoken v x else ring_step (ring_moves (bus_ask_of v) v.ring.stage) (bus_ask_of v) v x) (silent v n)
-    ∙ ap (λ (b : Bool). ring_step b (bus_ask_of v) v x) m
+pub ring_steps : (most : ℕ) (v : View) (x : BackAnswer) → (turn_of v ≡ turn.Keys → ⊥) → ring_moves (bus_ask_of v) v.ring.stage ≡ true → step_keeping_at most (bus_ask_of v) v x ≡ ring_step_keeping true (bus_ask_of v) v x
+ring_steps most v x n m =
+    ap (λ (b : Bool). if b then spoken_keeping most v x else ring_step_keeping (ring_moves (bus_ask_of v) v.ring.stage) (bus_ask_of v) v x) (silent v n)
+    ∙ ap (λ (b : Bool). ring_step_keeping b (bus_ask_of v) v x) m
 
 -- an answer to a move that the negotiation asked for is of the kind that it knows
 heard_at : (b : BackBusAsk) (s : BackStage) (v : ring.View) (x : BackAnswer) → ring_moves b s ≡ true → ring_ask.IsAnswer (ring_ask.ask_at s v) x → IsHeard b x
@@ -136,11 +137,15 @@ not_woken : (b : BackView) (x : BackAnswer) → is_plain x ≡ true → woken b 
 not_woken b (answer.Watched path) p = absurd (cc)
 not_woken b x p = refl
 
-pub open_steps : (v : View) (x : BackAnswer) → turn_of v ≡ turn.Ring → is_plain x ≡ true → step_of v x ≡ both (step_ring.step_of v.ring x) (caught_up (step_ring.step_of v.ring x) v.bus)
-open_steps v x t p =
-    let r : ring.View = step_ring.step_of v.ring x in
-    ap (λ (a : BackBusAsk). step_at a v x) (waits v t) ∙ (ap (λ (b : Bool). ring_step b bus_ask.Wait v x) (moves v t)
+open_steps_at : (most : ℕ) (v : View) (x : BackAnswer) → turn_of v ≡ turn.Ring → is_plain x ≡ true → step_keeping_at most (bus_ask_of v) v x ≡ both (keeping.step_keeping v.ring x) (caught_up (keeping.step_keeping v.ring x) v.bus)
+open_steps_at most v x t p =
+    let r : ring.View = keeping.step_keeping v.ring x in
+    ap (λ (a : BackBusAsk). step_keeping_at most a v x) (waits v t) ∙ (ap (λ (b : Bool). ring_step_keeping b bus_ask.Wait v x) (moves v t)
     ∙ ap (λ (b : BackView). both r (caught_up r b)) (not_woken v.bus x p))
+
+pub open_steps : (k : KeepingView) (x : BackAnswer) → turn_of k.ends ≡ turn.Ring → is_plain x ≡ true
+    → step_keeping k x ≡ record k { ends = both (keeping.step_keeping k.ends.ring x) (caught_up (keeping.step_keeping k.ends.ring x) k.ends.bus) }
+open_steps k x t p = ap (λ (v : View). record k { ends = v }) (open_steps_at k.most k.ends x t p)
 
 -- and stays as it is where the ring's end didn't halt
 halted_none : (h : Option Halt) (b : BackView) → is_some h ≡ false → bus_halted h b ≡ b

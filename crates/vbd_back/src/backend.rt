@@ -1,60 +1,40 @@
-// The backend.
-ghost use Rattle.std.specs.Prelude.{◌≡◌, ◌≤◌, IfOk, IsOk, None, true, length};
+// The backend that keeps no mapping.
+ghost use Rattle.std.specs.Prelude.{◌≡◌, ◌<◌, ◌≤◌, IfOk, IfSome, IsOk, None, true, length};
+ghost use Rattle.std.specs.Option.{IsSomeAnd};
 ghost use Rattle.blk_back.specs.Ask.{StaysInPage};
 ghost use Rattle.blk_back.specs.Hands.{hands_of, most_held};
 ghost use Rattle.back_jobs.specs.Hands.{Names, HandsAfter};
-ghost use Rattle.vbd_back.specs.declared.turn.Turn.TheVariants as turn;
-ghost use Rattle.vbd_back.specs.View.{start_of, offer, renewed};
-ghost use Rattle.vbd_back.specs.Ask.{ask_of, IsAnswer};
-ghost use Rattle.vbd_back.specs.Step.{step_of, closes, is_plain};
-ghost use Rattle.vbd_back.specs.Turn.{turn_of};
+ghost use Rattle.back_jobs.specs.Part.{words_read, words_written, AsksEach, IsWithinPage, NamesPart, IsReadPart, IsWrittenPart};
+ghost use Rattle.back_jobs.specs.Sound.{StaysInPageAndDisk};
+ghost use Rattle.back_jobs.specs.Work.{IsAnswer as IsJobAnswer};
+ghost use Rattle.vbd_back.specs.View.{start_of, renewed, heard};
+ghost use Rattle.vbd_back.specs.Ask.{ask_of, is_waiting, is_idle, IsAnswer};
+ghost use Rattle.vbd_back.specs.Step.{step_of, closes, job_ask_of, job_step, next_job_of};
+ghost use Rattle.vbd_back.specs.Part.{job_part, job_values, job_steps, job_asked, JobMovesEach};
 
-mod parts;
-mod ring;
-
-use crate::key::Key;
-use crate::turn::{Turn, turn_of};
-use crate::{moves, plain};
-use blk_back::Back;
+use crate::keeping::KeepingBackend;
+use back_jobs::SectorPart;
+use blk_back::BackTold;
 use blk_base::{BackAnswer, BackAsk, Config, Endpoint, Halt, OutOfMemory};
 use std::alloc::Global;
 use std::marker::Model;
-use xenbus_state::{BackBus, DiskFacts, Features};
 
-// What it offers beside reads and writes: barriers, flushes and discards where the disk may be written,
-// indirect requests of up to so many segments (none where that is 0), and rings of up to 16 pages.
-fn offer(read_only: bool, indirect: u32) -> Features
-    ensures { result ≡ offer read_only indirect }
-{
-    Features {
-        barrier: !read_only,
-        flush: !read_only,
-        discard: !read_only,
-        persistent: false,
-        indirect,
-        order: 4,
-    }
-}
-
-/// The back end of a block device of one ring, which it serves as its front connects, and leaves as
-/// its front is gone (`io/blkif.h`). Its jobs move apart from it. After `new` it takes no memory.
+/// The back end of a block device, likewise, that never keeps a mapping, and says so: that of the machine
+/// of both domains. To contracts it is both ends.
 #[derive(Drop)]
 pub struct Backend {
-    ring: Back,
-    bus: BackBus,
-    turn: Turn,
-    key: Key,
+    back: KeepingBackend,
 }
 
 impl Model for Backend {
     ghost use Rattle.vbd_back.specs.View.{View};
-    ghost use Rattle.vbd_back.specs.Inside.{view_of, IsSound};
+    ghost use Rattle.vbd_back.specs.Keeping.{IsPlain};
 
     ghost Value = { View };
 
-    ghost view = { view_of };
+    ghost view = { λ b. b.back.ends };
 
-    ghost invariant = { IsSound };
+    ghost invariant = { λ b. IsPlain b.back };
 }
 
 impl Backend {
@@ -62,19 +42,8 @@ impl Backend {
     pub fn new(alloc: Global, config: &Config) -> Result<Backend, OutOfMemory>
         ensures { IfOk result (λ backend. backend ≡ start_of config.now) }
     {
-        let ring = Back::new(alloc, config)?;
-        let bus = BackBus::new(
-            offer(config.read_only, config.indirect),
-            DiskFacts::of(config),
-        );
-        let turn = turn_of(&bus, &ring);
-        let key = Key::of(&bus.ask());
-        Ok(Backend {
-            ring,
-            bus,
-            turn,
-            key,
-        })
+        let back = KeepingBackend::of(alloc, config, 0)?;
+        Ok(Backend { back })
     }
 
     /// After a suspend: a new backend of the same disk, of a ring of this first index, which publishes
@@ -83,22 +52,8 @@ impl Backend {
     pub fn renewed(&self, alloc: Global, start: u32, going: bool) -> Result<Backend, OutOfMemory>
         ensures { IfOk result (λ backend. backend ≡ renewed start going self.now) }
     {
-        let mut ring = self.ring.renewed(alloc, start)?;
-        let (features, disk) = (self.bus.features(), self.bus.disk());
-        let bus = if going {
-            BackBus::new(features, disk)
-        } else {
-            plain::halt(&mut ring, Halt::Gone(6));
-            BackBus::halted(features, disk)
-        };
-        let turn = turn_of(&bus, &ring);
-        let key = Key::of(&bus.ask());
-        Ok(Backend {
-            ring,
-            bus,
-            turn,
-            key,
-        })
+        let back = self.back.renewed(alloc, start, going)?;
+        Ok(Backend { back })
     }
 
     /// The back is to close: once it is connected it says so, between two steps of the ring's end, and
@@ -106,9 +61,7 @@ impl Backend {
     pub fn close(&mut self)
         ensures { self.new ≡ closes self.old }
     {
-        self.bus.close();
-        self.turn = turn_of(&self.bus, &self.ring);
-        self.key = Key::of(&self.bus.ask());
+        self.back.close();
     }
 }
 
@@ -125,90 +78,142 @@ impl<'a> Endpoint<'a> for Backend {
     ghost MayTell = { λ backend answer. IsAnswer (ask_of backend) answer × (backend.ring.told ≡ None) };
 
     #[inline(always)]
-    #[tactic(auto, using(crate::proofs::Turns::open_asks))]
     fn ask(&'a self) -> BackAsk<'a>
         ensures value { result ≡ ask_of self.now }
         ensures within { StaysInPage result }
         ensures names { Names (hands_of self.now.ring) result }
         ensures few { length (hands_of self.now.ring) ≤ most_held }
     {
-        // Most moves are of the ring's end, once its port is bound.
-        let ask = self.ring.ask();
-        match self.turn {
-            Turn::Ring => ask,
-            _ => self.ask_by_turn(),
-        }
+        self.back.ask()
     }
 
+    #[inline(always)]
     fn tell(&mut self, answer: &BackAnswer<'a>) -> Result<(), OutOfMemory>
         requires { IsAnswer (ask_of self.old) answer.now × (self.old.ring.told ≡ None) }
         ensures completed { self.new ≡ step_of self.old answer.now }
         ensures hands { HandsAfter (ask_of self.old) answer.now (hands_of self.old.ring) (hands_of self.new.ring) }
         ensures takes_no_memory { IsOk result }
     {
-        self.step(answer);
-        Ok(())
+        self.back.tell(answer)
     }
 }
 
 impl Backend {
-    // What is asked, whosever turn it is.
-    #[inline(never)]
-    #[tactic(auto, using(crate::proofs::Turns::ring_asks))]
-    fn ask_by_turn(&self) -> BackAsk<'_>
-        ensures value { result ≡ ask_of self.now }
-        ensures within { StaysInPage result }
+    /// What the job of the `number`-th request that was fetched in this epoch asks next; `Wait` also
+    /// where there is none, and for every job after a halt.
+    #[inline(always)]
+    pub fn job_ask(&self, number: u64) -> BackAsk<'_>
+        ensures value { result ≡ job_ask_of self.now number }
+        ensures within { StaysInPageAndDisk self.now.ring.jobs.info.sectors result }
         ensures names { Names (hands_of self.now.ring) result }
+        ensures few { length (hands_of self.now.ring) ≤ most_held }
     {
-        match self.turn {
-            Turn::Keys => self.key.lend(&self.bus.ask()),
-            _ if moves::ring_moves(&self.ring, &self.bus) => self.ring.ask(),
-            _ => BackAsk::Wait,
-        }
+        self.back.job_ask(number)
     }
 
-    // What an answer makes of it. The negotiation learns nothing of the moves of the ring's end but of
-    // a watch and a halt.
+    /// Answers what the job of a number asks.
     #[inline(always)]
-    fn step(&mut self, answer: &BackAnswer)
-        requires kind { IsAnswer (ask_of self.old) answer.now }
-        requires heard { self.old.ring.told ≡ None }
-        ensures { self.new ≡ step_of self.old answer.now }
+    pub fn job_tell(&mut self, number: u64, answer: &BackAnswer)
+        requires answer { IsJobAnswer (job_ask_of self.old number) answer.now }
+        requires told { self.old.ring.told ≡ None }
+        ensures stepped { self.new ≡ job_step self.old number answer.now }
+        ensures hands { HandsAfter (job_ask_of self.old number) answer.now (hands_of self.old.ring) (hands_of self.new.ring) }
     {
-        match (self.turn, answer) {
-            (Turn::Ring, BackAnswer::Watched(_)) => self.tell_by_turn(answer),
-            (Turn::Ring, _) => self.serve(answer),
-            _ => self.tell_by_turn(answer),
-        }
+        self.back.job_tell(number, answer);
     }
 
-    // Answers what is asked, whosever turn it is.
-    #[inline(never)]
-    fn tell_by_turn(&mut self, answer: &BackAnswer)
-        requires kind { IsAnswer (ask_of self.old) answer.now }
-        requires heard { self.old.ring.told ≡ None }
-        ensures { self.new ≡ step_of self.old answer.now }
-    {
-        moves::tell(self.turn, &mut self.ring, &mut self.bus, answer);
-        self.turn = turn_of(&self.bus, &self.ring);
-        self.key = Key::of(&self.bus.ask());
-    }
-
-    // The ring's end was answered, and took no watch: where it halts, so does the negotiation.
+    /// The least number above this one of a job that is held; `None` exactly where there is none, and
+    /// always after a halt. At most 512 are held.
     #[inline(always)]
-    #[tactic(auto, using(crate::proofs::Turns::open_answers, crate::proofs::Turns::open_steps, crate::proofs::Turns::rests))]
-    fn serve(&mut self, answer: &BackAnswer)
-        requires turn { turn_of self.old ≡ turn.Ring }
-        requires plain { is_plain answer.now ≡ true }
-        requires kind { IsAnswer (ask_of self.old) answer.now }
-        requires heard { self.old.ring.told ≡ None }
-        ensures { self.new ≡ step_of self.old answer.now }
+    pub fn next_job(&self, after: u64) -> Option<u64>
+        ensures value { result ≡ next_job_of self.now after }
+        ensures above { IfSome result (λ next. after < next) }
+        ensures few { length self.now.ring.jobs.works ≤ 512 }
     {
-        plain::tell(&mut self.ring, answer);
-        if self.ring.halted().is_some() {
-            moves::catch_up(&self.ring, &mut self.bus);
-            self.turn = turn_of(&self.bus, &self.ring);
-            self.key = Key::of(&self.bus.ask());
-        }
+        self.back.next_job(after)
+    }
+
+    /// Whether it asks for nothing but an event or a watch.
+    #[inline(always)]
+    pub fn waits(&self) -> bool
+        ensures { result ≡ is_waiting self.now }
+    {
+        self.back.waits()
+    }
+
+    /// Whether it asks for nothing but an event or a watch, and no job is held.
+    pub fn idle(&self) -> bool
+        ensures { result ≡ is_idle self.now }
+    {
+        self.back.idle()
+    }
+
+    /// What happened at the ring in the last move, once; `None` exactly where nothing is left to tell.
+    #[inline(always)]
+    pub fn take_told(&mut self) -> Option<BackTold>
+        ensures told { result ≡ self.old.ring.told }
+        ensures taken { self.new ≡ heard self.old }
+    {
+        self.back.take_told()
+    }
+
+    /// Why the ring's end halted; `None` exactly where it didn't.
+    pub fn halted(&self) -> Option<Halt>
+        ensures { result ≡ self.now.ring.halted }
+    {
+        self.back.halted()
+    }
+}
+
+impl Backend {
+    /// The words of a sector that the job of a number has read or written next, as single asks would
+    /// name them one after another; `None` exactly where it doesn't ask for a word, and so for every job
+    /// after a halt.
+    #[inline(always)]
+    pub fn sector_part(&self, number: u64) -> Option<SectorPart>
+        ensures value { result ≡ job_part self.now number }
+        ensures each { IfSome result (λ part. AsksEach part (job_values self.now number) (job_asked self.now number)) }
+        ensures within { IfSome result (λ part. IsWithinPage part) }
+        ensures names { IfSome result (λ part. NamesPart (hands_of self.now.ring) part) }
+    {
+        self.back.sector_part(number)
+    }
+
+    /// The words that are to be written to a part that is written, in their order; none where the job
+    /// of a number doesn't ask for a word to be written.
+    #[inline(always)]
+    pub fn part_values(&self, number: u64) -> &[u32]
+        ensures value { result.now ≡ job_values self.now number }
+        ensures count { IfSome (job_part self.now number) (λ part. part.writes ≡ true → length result.now ≡ part.count) }
+    {
+        self.back.part_values(number)
+    }
+
+    /// These words were read, the first ones of the part that the job of a number asks for: as if each
+    /// had been told by itself.
+    #[inline(always)]
+    pub fn job_tell_read(&mut self, number: u64, words: &[u32])
+        requires part { IsSomeAnd (job_part self.old number) (λ part. IsReadPart part (length words.now)) }
+        requires told { self.old.ring.told ≡ None }
+        ensures stepped { self.new ≡ job_steps self.old number (words_read words.now) }
+        ensures each { JobMovesEach self.old number (words_read words.now) }
+        ensures told { self.new.ring.told ≡ None }
+        ensures hands { hands_of self.new.ring ≡ hands_of self.old.ring }
+    {
+        self.back.job_tell_read(number, words);
+    }
+
+    /// So many words were written, the first ones of the part that the job of a number asks for: as if
+    /// each had been told by itself.
+    #[inline(always)]
+    pub fn job_tell_written(&mut self, number: u64, count: u32)
+        requires part { IsSomeAnd (job_part self.old number) (λ part. IsWrittenPart part count) }
+        requires told { self.old.ring.told ≡ None }
+        ensures stepped { self.new ≡ job_steps self.old number (words_written count) }
+        ensures each { JobMovesEach self.old number (words_written count) }
+        ensures told { self.new.ring.told ≡ None }
+        ensures hands { hands_of self.new.ring ≡ hands_of self.old.ring }
+    {
+        self.back.job_tell_written(number, count);
     }
 }

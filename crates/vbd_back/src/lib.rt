@@ -5,9 +5,10 @@
 #![tactic(auto)]
 
 mod backend;
+mod keeping;
 mod key;
 mod moves;
-mod plain;
 mod turn;
 
 pub use backend::Backend;
+pub use keeping::KeepingBackend;

@@ -2,29 +2,26 @@
 ghost use Rattle.std.specs.Prelude.{◌≡◌, None, true, false};
 ghost use Rattle.blk_back.specs.Ask.{ask_of as ring_ask_of, IsAnswer as IsRingAnswer};
 ghost use Rattle.xenbus_state.specs.BackAsk.{ask_of as bus_ask, IsAnswer as IsBusAnswer};
-ghost use Rattle.blk_back.specs.Keeping.{KeepsNone};
 ghost use Rattle.vbd_back.specs.View.{both};
-ghost use Rattle.vbd_back.specs.Ask.{ask_of, IsAnswer, ring_moves};
+ghost use Rattle.vbd_back.specs.Ask.{ask_of, bus_ask_of, IsAnswer, ring_moves};
 ghost use Rattle.vbd_back.specs.Turn.{turn_of};
-ghost use Rattle.vbd_back.specs.Step.{ring_halt, spoken, ring_step, step_of, IsHeard, followed, waited, settled, caught_up};
+ghost use Rattle.vbd_back.specs.Step.{ring_halt, IsHeard, followed, waited, settled, caught_up};
+ghost use Rattle.vbd_back.specs.Keeping.{reads_terms, cap_of, spoken_keeping, ring_step_keeping, step_keeping_at};
 
-use crate::plain;
 use crate::turn::Turn;
 use blk_back::{Back, BackStage};
-use blk_base::{BackAnswer, Halt, ShortText};
+use blk_base::{BackAnswer, Endpoint, Halt, ShortText};
 use xenbus_state::{BackBus, BackBusAsk, BackHalt, FrontKey};
 
-/// Answers what is asked, whosever turn it is.
-pub fn tell(turn: Turn, ring: &mut Back, bus: &mut BackBus, answer: &BackAnswer)
+/// Answers what is asked, whosever turn it is, of a backend that is to keep so many mappings at most.
+pub fn tell(turn: Turn, ring: &mut Back, bus: &mut BackBus, most: u32, answer: &BackAnswer)
     requires turn { turn ≡ turn_of (both ring.old bus.old) }
     requires kind { IsAnswer (ask_of (both ring.old bus.old)) answer.now }
     requires heard { ring.old.told ≡ None }
-    requires plain { KeepsNone ring.old }
-    ensures stepped { both ring.new bus.new ≡ step_of (both ring.old bus.old) answer.now }
-    ensures plain { KeepsNone ring.new }
+    ensures stepped { both ring.new bus.new ≡ step_keeping_at most (bus_ask_of (both ring.old bus.old)) (both ring.old bus.old) answer.now }
 {
     match turn {
-        Turn::Keys => take_key(ring, bus, answer),
+        Turn::Keys => take_key(ring, bus, most, answer),
         _ if ring_moves(ring, bus) => move_ring(ring, bus, answer),
         _ => wake(bus, answer),
     }
@@ -50,24 +47,42 @@ pub fn ring_moves(ring: &Back, bus: &BackBus) -> bool
     }
 }
 
-// The negotiation was answered: where it halts, so does the ring's end, and where it has read the layout
-// the ring's end takes the terms of the front.
-fn take_key(ring: &mut Back, bus: &mut BackBus, answer: &BackAnswer)
+// The negotiation was answered: where it halts, so does the ring's end, and where it has read the terms of
+// the front the ring's end takes them.
+fn take_key(ring: &mut Back, bus: &mut BackBus, most: u32, answer: &BackAnswer)
     requires kind { IsBusAnswer (bus_ask bus.old) answer.now }
-    requires plain { KeepsNone ring.old }
-    ensures spoken { both ring.new bus.new ≡ spoken (both ring.old bus.old) answer.now }
-    ensures plain { KeepsNone ring.new }
+    ensures spoken { both ring.new bus.new ≡ spoken_keeping most (both ring.old bus.old) answer.now }
 {
-    let reads_layout = matches!(bus.ask(), BackBusAsk::GetKey(FrontKey::Protocol));
+    let reads_terms = reads_terms(most, &bus.ask());
     match bus.tell(answer) {
-        Some(why) => plain::halt(ring, ring_halt(why)),
-        None if reads_layout => {
+        Some(why) => ring.halt(ring_halt(why)),
+        None if reads_terms => {
             let terms = bus.terms();
-            plain::attach(ring, terms.abi, terms.order, bus.grefs(), terms.port);
+            let cap = cap_of(most, bus);
+            ring.attach(terms.abi, terms.order, bus.grefs(), terms.port, cap);
         }
         None => {}
     }
     settle(bus, ring.stage());
+}
+
+// Whether the last of the front's terms is asked for: the layout, or, of a back that is to keep mappings,
+// whether the front keeps grants.
+fn reads_terms(most: u32, ask: &BackBusAsk) -> bool
+    ensures { result ≡ reads_terms most ask.now }
+{
+    match ask {
+        BackBusAsk::GetKey(FrontKey::Protocol) => most == 0,
+        BackBusAsk::GetKey(FrontKey::FeaturePersistent) => most != 0,
+        _ => false,
+    }
+}
+
+// How many mappings may be kept: none unless both ends published that they keep grants.
+fn cap_of(most: u32, bus: &BackBus) -> u32
+    ensures { result ≡ cap_of most bus.now }
+{
+    if bus.keeps_grants() { most } else { 0 }
 }
 
 /// Why the ring's end halts where the negotiation does.
@@ -92,11 +107,9 @@ fn move_ring(ring: &mut Back, bus: &mut BackBus, answer: &BackAnswer)
     requires moves { ring_moves (bus_ask bus.old) ring.old.stage ≡ true }
     requires kind { IsRingAnswer (ring_ask_of ring.old) answer.now }
     requires heard { ring.old.told ≡ None }
-    requires plain { KeepsNone ring.old }
-    ensures stepped { both ring.new bus.new ≡ ring_step true (bus_ask bus.old) (both ring.old bus.old) answer.now }
-    ensures plain { KeepsNone ring.new }
+    ensures stepped { both ring.new bus.new ≡ ring_step_keeping true (bus_ask bus.old) (both ring.old bus.old) answer.now }
 {
-    plain::tell(ring, answer);
+    let _ = ring.tell(answer);
     follow(bus, answer);
     catch_up(ring, bus);
 }

@@ -10,9 +10,10 @@ move_ring-requires c =
       moves = moves;
       kind = ring_answers (both c.args.ring.now c.args.bus.now) c.args.answer.now (λ k. c.in_default.not-Keys (c.requires.turn ∙ k)) moves c.requires.kind;
       heard = c.requires.heard;
-      plain = c.requires.plain;
     }
 
-pub returns-in_default-clause-stepped : goal.returns-in_default-clause-stepped
-returns-in_default-clause-stepped c =
-    c.move_ring.ensures.stepped ∙ sym (ring_steps (both c.args.ring.now c.args.bus.now) c.args.answer.now (λ k. c.in_default.not-Keys (c.requires.turn ∙ k)) (sym c.ring_moves.ensures ∙ c.if-ring_moves.true))
+pub returns-in_default : goal.returns-in_default
+returns-in_default c = record {
+  stepped = c.move_ring.ensures.stepped
+      ∙ sym (ring_steps c.args.most (both c.args.ring.now c.args.bus.now) c.args.answer.now (λ k. c.in_default.not-Keys (c.requires.turn ∙ k)) (sym c.ring_moves.ensures ∙ c.if-ring_moves.true));
+}
