@@ -51,14 +51,14 @@ fn hex_digit(byte: u8) -> Option<u32>
 }
 
 /// The number that four digits of a word say.
-fn four_digits(first: u8, second: u8, third: u8, fourth: u8) -> Option<u32>
+fn four_digits(one: u8, two: u8, three: u8, four: u8) -> Option<u32>
     ensures small { IfSome result (λ n. n < 65536) }
-    ensures digits { IfSome result (λ n. first ∷ second ∷ third ∷ fourth ∷ [] ≡ glyph (n / 4096) ∷ glyph (n / 256 % 16) ∷ glyph (n / 16 % 16) ∷ glyph (n % 16) ∷ []) }
+    ensures digits { IfSome result (λ n. one ∷ two ∷ three ∷ four ∷ [] ≡ glyph (n / 4096) ∷ glyph (n / 256 % 16) ∷ glyph (n / 16 % 16) ∷ glyph (n % 16) ∷ []) }
 {
-    let a = hex_digit(first)?;
-    let b = hex_digit(second)?;
-    let c = hex_digit(third)?;
-    let d = hex_digit(fourth)?;
+    let a = hex_digit(one)?;
+    let b = hex_digit(two)?;
+    let c = hex_digit(three)?;
+    let d = hex_digit(four)?;
     Some(4096 * a + 256 * b + 16 * c + d)
 }
 
