@@ -3,3 +3,4 @@ pub mod Turns
 mod Plain
 mod Open
 mod Parts
+mod Kept

@@ -22,7 +22,7 @@ use Rattle.vbd_back.specs.View.{View}
 use Rattle.vbd_back.specs.Turn.{turn_at, turn_of}
 use Rattle.vbd_back.proofs.Turns.{waits}
 
-abbrev is_open : BackStage → Bool
+abbrev pub is_open : BackStage → Bool
 is_open stage.InitWait = false
 is_open stage.MapRing = false
 is_open stage.Bind = false
@@ -41,7 +41,7 @@ either_stage : (c : Bool) (x y : BackStage) → is_open x ≡ true → is_open y
 either_stage true x y p q = p
 either_stage false x y p q = q
 
-giving_open : (m : Option Mapping) → is_open (unmapping_next m) ≡ true
+pub giving_open : (m : Option Mapping) → is_open (unmapping_next m) ≡ true
 giving_open None = refl
 giving_open (Some m) = refl
 
@@ -49,7 +49,7 @@ bound_open : (pages : List Mapping) → is_open (bound pages) ≡ true
 bound_open [] = refl
 bound_open (page ∷ pages) = refl
 
-unbound_open : (pages : List Mapping) → is_open (unbound pages) ≡ true
+pub unbound_open : (pages : List Mapping) → is_open (unbound pages) ≡ true
 unbound_open [] = refl
 unbound_open (page ∷ pages) = refl
 
@@ -68,7 +68,7 @@ loop_open v None (answer.Word word) h =
     (looked_open v word otherwise refl) refl
 loop_open v None given h = h
 
-opened : (s : BackStage) (v : ring.View) (given : BackAnswer) → is_open v.stage ≡ true → is_open s ≡ true → is_open (step_keeping_at s v given).stage ≡ true
+pub opened : (s : BackStage) (v : ring.View) (given : BackAnswer) → is_open v.stage ≡ true → is_open s ≡ true → is_open (step_keeping_at s v given).stage ≡ true
 opened stage.InitWait v given o h = absurd (cc)
 opened stage.MapRing v given o h = absurd (cc)
 opened stage.Bind v given o h = absurd (cc)

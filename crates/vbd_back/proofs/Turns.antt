@@ -47,7 +47,7 @@ pub ring_asks : (v : View) → (turn_of v ≡ turn.Keys → ⊥) → ring_moves 
 ring_asks v n m = asks_at (bus_ask_of v) v (silent v n) m
 
 -- what the ring's end asks names no key
-abbrev names_none : BackAsk → Bool
+abbrev pub names_none : BackAsk → Bool
 names_none (ask.GetKey path) = false
 names_none (ask.SetKey path text) = false
 names_none (ask.Watch path) = false
@@ -67,13 +67,13 @@ unmap_none : (pages : List Mapping) → names_none (ring_ask.unmap_ask pages) �
 unmap_none [] = refl
 unmap_none (page ∷ pages) = refl
 
-none_at : (s : BackStage) (v : ring.View) → names_none (ring_ask.ask_at s v) ≡ true
+pub none_at : (s : BackStage) (v : ring.View) → names_none (ring_ask.ask_at s v) ≡ true
 none_at stage.Loop v = loop_none v (ring_ask.next_reply v)
 none_at stage.UnmapRing v = unmap_none v.pages
 none_at stage.UnmapUnbound v = unmap_none v.pages
 none_at s v = refl
 
-answered : (a : BackAsk) (given : BackAnswer) → names_none a ≡ true → IsAnswer a given → ring_ask.IsAnswer a given
+pub answered : (a : BackAsk) (given : BackAnswer) → names_none a ≡ true → IsAnswer a given → ring_ask.IsAnswer a given
 answered (ask.GetKey path) given n h = absurd (cc)
 answered (ask.SetKey path text) given n h = absurd (cc)
 answered (ask.Watch path) given n h = absurd (cc)

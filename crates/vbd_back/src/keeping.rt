@@ -2,7 +2,7 @@
 ghost use Rattle.std.specs.Prelude.{◌≡◌, ◌≤◌, IfOk, IsOk, None, true, length};
 ghost use Rattle.blk_back.specs.Ask.{StaysInPage};
 ghost use Rattle.blk_back.specs.Hands.{hands_of, all_hands_of, most_held, most_with_kept};
-ghost use Rattle.back_jobs.specs.Hands.{Names};
+ghost use Rattle.back_jobs.specs.Hands.{Names, HandsKeep};
 ghost use Rattle.vbd_back.specs.declared.turn.Turn.TheVariants as turn;
 ghost use Rattle.vbd_back.specs.Ask.{ask_of, IsAnswer};
 ghost use Rattle.vbd_back.specs.Step.{is_plain};
@@ -167,6 +167,7 @@ impl<'a> Endpoint<'a> for KeepingBackend {
     fn tell(&mut self, answer: &BackAnswer<'a>) -> Result<(), OutOfMemory>
         requires { IsAnswer (ask_of self.old.ends) answer.now × (self.old.ends.ring.told ≡ None) }
         ensures completed { self.new ≡ step_keeping self.old answer.now }
+        ensures hands { HandsKeep (ask_of self.old.ends) answer.now (all_hands_of self.old.ends.ring) (all_hands_of self.new.ends.ring) }
         ensures takes_no_memory { IsOk result }
     {
         self.step(answer);
@@ -193,10 +194,12 @@ impl KeepingBackend {
     // What an answer makes of it. The negotiation learns nothing of the moves of the ring's end but of
     // a watch and a halt.
     #[inline(always)]
+    #[tactic(auto, using(crate::proofs::Kept::keep_done))]
     fn step(&mut self, answer: &BackAnswer)
         requires kind { IsAnswer (ask_of self.old.ends) answer.now }
         requires heard { self.old.ends.ring.told ≡ None }
-        ensures { self.new ≡ step_keeping self.old answer.now }
+        ensures completed { self.new ≡ step_keeping self.old answer.now }
+        ensures hands { HandsKeep (ask_of self.old.ends) answer.now (all_hands_of self.old.ends.ring) (all_hands_of self.new.ends.ring) }
     {
         match (self.turn, answer) {
             (Turn::Ring, BackAnswer::Watched(_)) => self.tell_by_turn(answer),
