@@ -129,13 +129,13 @@ static bool move(void) {
 static void draw(uint64_t slot) {
     static const uint32_t ops[] = {VBD_OP_BARRIER, VBD_OP_FLUSH, VBD_OP_DISCARD};
     struct vbd_submission *of = &requests[slot].of;
-    uint64_t kind = any(100), most = options.sectors_each;
-    of->op = kind < 45 || options.read_only ? VBD_OP_READ : kind < 92 ? VBD_OP_WRITE : ops[kind % 3];
+    uint64_t kind = any_asked(100), most = options.sectors_each;
+    of->op = kind < 45 || options.read_only ? VBD_OP_READ : kind < 92 || options.data_only ? VBD_OP_WRITE : ops[kind % 3];
     if (of->op == VBD_OP_BARRIER && most > DIRECT_SECTORS) most = DIRECT_SECTORS; /* no barrier is indirect */
-    of->count = of->op == VBD_OP_FLUSH ? 0 : 1 + (uint32_t)any(most);
-    of->sector = of->op == VBD_OP_FLUSH ? 0 : slot * options.sectors_each + any(options.sectors_each - of->count + 1);
-    of->tag = 1 + (uint32_t)any(UINT32_MAX);
-    requests[slot].own = (of->op == VBD_OP_WRITE || of->op == VBD_OP_BARRIER) && any(2);
+    of->count = of->op == VBD_OP_FLUSH ? 0 : 1 + (uint32_t)any_asked(most);
+    of->sector = of->op == VBD_OP_FLUSH ? 0 : slot * options.sectors_each + any_asked(options.sectors_each - of->count + 1);
+    of->tag = 1 + (uint32_t)any_asked(UINT32_MAX);
+    requests[slot].own = (of->op == VBD_OP_WRITE || of->op == VBD_OP_BARRIER) && any_asked(2);
 }
 
 /* Hands it requests while some are left. One that is refused for want of room is kept, and tried again once another is answered. */

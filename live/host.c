@@ -12,6 +12,7 @@
 #include <string.h>
 #include <sys/eventfd.h>
 #include <sys/mman.h>
+#include <sys/resource.h>
 #include <sys/wait.h>
 #include <time.h>
 #include <unistd.h>
@@ -23,7 +24,7 @@ static const char usage[] =
     "host: the proved front and the proved back of a Xen block device on real shared memory\n"
     "\n"
     "    host [--requests N] [--depth N] [--sectors N] [--order N] [--indirect N] [--abi 32|64] [--suspends N] [--start N]\n"
-    "         [--seed N] [--image FILE] [--read-only] [--delays] [--hostile] [--threads]\n"
+    "         [--seed N] [--image FILE] [--read-only] [--data-only] [--delays] [--hostile] [--threads]\n"
     "\n"
     "    --requests N   so many requests are served (20000)\n"
     "    --depth N      up to so many at once, 1 to 512 (32); what the ring has no entry for waits\n"
@@ -36,6 +37,7 @@ static const char usage[] =
     "    --seed N       what is asked for, and the delays (1)\n"
     "    --image FILE   the disk, which is made anew; else a file that is gone at the end\n"
     "    --read-only    the disk is for reading alone\n"
+    "    --data-only    reads and writes alone: no barriers, flushes and discards\n"
     "    --delays       each word, key and call comes after a random delay\n"
     "    --hostile      a third process overwrites words of grants, ring and data; the front may break then\n"
     "    --threads      threads in place of processes\n"
@@ -53,12 +55,18 @@ void die(const char *format, ...) {
     _exit(1);
 }
 
-static _Thread_local uint64_t random_state;
-void seed_of_thread(uint64_t who) { random_state = (options.seed * 4 + who + 1) * 0x9e3779b97f4a7c15u; }
-uint64_t any(uint64_t below) {
-    random_state ^= random_state << 13, random_state ^= random_state >> 7, random_state ^= random_state << 17;
-    return (random_state >> 11) % below;
+/* What is asked for is drawn by itself: it is the same for one seed, whoever is faster. */
+static _Thread_local uint64_t random_state, asked_state;
+void seed_of_thread(uint64_t who) {
+    random_state = (options.seed * 4 + who + 1) * 0x9e3779b97f4a7c15u;
+    asked_state = random_state * 0xbf58476d1ce4e5b9u;
 }
+static uint64_t drawn(uint64_t *state, uint64_t below) {
+    *state ^= *state << 13, *state ^= *state >> 7, *state ^= *state << 17;
+    return (*state >> 11) % below;
+}
+uint64_t any(uint64_t below) { return drawn(&random_state, below); }
+uint64_t any_asked(uint64_t below) { return drawn(&asked_state, below); }
 void delay(void) {
     if (!options.delays) return;
     uint64_t kind = any(4096);
@@ -116,8 +124,14 @@ static int run_threads(void) {
     }
     return failed;
 }
+static void say_used(const char *name, const struct rusage *used) {
+    double user = (double)used->ru_utime.tv_sec + (double)used->ru_utime.tv_usec / 1e6;
+    double kernel = (double)used->ru_stime.tv_sec + (double)used->ru_stime.tv_usec / 1e6;
+    printf("%s: %.3f seconds of a processor, %.3f of them in the kernel\n", name, user + kernel, kernel);
+}
 /* Where a process fails the others are ended, since they would wait for it. */
 static int run_processes(void) {
+    static const char *const names[] = {"back", "front", "hostile hand"};
     void *(*const runs[])(void *) = {back_thread, front_thread, hostile_thread};
     pid_t children[3];
     int failed = 0, count = options.hostile ? 3 : 2;
@@ -128,11 +142,12 @@ static int run_processes(void) {
     }
     for (int left = count; left > 0; left--) {
         int status = 0;
-        pid_t gone = wait(&status);
+        struct rusage used;
+        pid_t gone = wait4(-1, &status, 0, &used);
         bool well = WIFEXITED(status) && WEXITSTATUS(status) == 0;
         failed += !well;
         for (int i = 0; i < count; i++)
-            if (children[i] == gone) children[i] = 0;
+            if (children[i] == gone) children[i] = 0, say_used(names[i], &used);
             else if (children[i] && !well) kill(children[i], SIGKILL);
     }
     return failed;
@@ -179,6 +194,7 @@ int main(int count, char **words) {
         const char *word = words[i], *next = i + 1 < count ? words[i + 1] : 0;
         if (!strcmp(word, "--help")) return fputs(usage, stdout), 0;
         else if (!strcmp(word, "--read-only")) options.read_only = true;
+        else if (!strcmp(word, "--data-only")) options.data_only = true;
         else if (!strcmp(word, "--delays")) options.delays = true;
         else if (!strcmp(word, "--hostile")) options.hostile = true;
         else if (!strcmp(word, "--threads")) options.threads = true;

@@ -23,7 +23,7 @@ enum { INITIALISING = 1, INIT_WAIT, INITIALISED, CONNECTED, CLOSING, CLOSED }; /
 struct options {
     uint64_t requests, depth, sectors_each, suspends, seed;
     uint32_t start, order, indirect;
-    bool x86_32, read_only, delays, hostile, threads;
+    bool x86_32, read_only, data_only, delays, hostile, threads;
     const char *image;
 };
 extern struct options options;
@@ -37,6 +37,7 @@ extern struct outside outside;
 
 _Noreturn void die(const char *format, ...) __attribute__((format(printf, 1, 2)));
 uint64_t any(uint64_t below);
+uint64_t any_asked(uint64_t below);
 void seed_of_thread(uint64_t who);
 void delay(void);
 void long_delay(void);

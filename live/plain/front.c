@@ -118,8 +118,9 @@ static void push(uint32_t before) {
 }
 
 static uint32_t any_operation(void) {
-    uint64_t kind = any(100);
+    uint64_t kind = any_asked(100);
     if (kind < 45 || options.read_only) return READ;
+    if (options.data_only) return WRITE;
     if (kind < 48 && features.barrier) return BARRIER;
     if (kind < 50 && features.flush_cache) return FLUSH;
     return kind < 53 && features.discard ? DISCARD : WRITE;
@@ -133,9 +134,9 @@ static void submit(void) {
         uint64_t most = options.sectors_each;
         requests[slot].busy = true;
         requests[slot].op = any_operation();
-        requests[slot].count = 1 + (uint32_t)any(most);
-        requests[slot].sector = slot * most + any(most - requests[slot].count + 1);
-        requests[slot].tag = 1 + (uint32_t)any(UINT32_MAX);
+        requests[slot].count = 1 + (uint32_t)any_asked(most);
+        requests[slot].sector = slot * most + any_asked(most - requests[slot].count + 1);
+        requests[slot].tag = 1 + (uint32_t)any_asked(UINT32_MAX);
         if (requests[slot].op == FLUSH) requests[slot].sector = requests[slot].count = 0;
         put_request(slot);
         submitted++;
