@@ -13,6 +13,7 @@
 #define SECONDS 20
 
 static uint64_t events;
+static bool keys_changed = true; /* since the front's state was last read */
 
 void event_sent(void)
 {
@@ -36,12 +37,13 @@ static bool wait(void)
     if (poll(until, 3, 1000 * SECONDS) == 0) {
         die("QEMU's back waited for %d seconds: an event is lost", SECONDS);
     }
-    woken(outside.watch[BACK]);
+    keys_changed |= woken(outside.watch[BACK]);
     return !(until[0].revents & POLLIN);
 }
 
 static uint64_t front_state(void)
 {
+    keys_changed = false;
     return get_number(FRONT_KEYS, "state", INITIALISING);
 }
 
@@ -75,7 +77,7 @@ static XenBlockDataPlane *connected(BlockBackend *disk)
 
 static void serve(XenBlockDataPlane *plane)
 {
-    while (front_state() < CLOSING && wait()) {
+    while ((!keys_changed || front_state() < CLOSING) && wait()) {
         if (woken(outside.event[BACK])) {
             serve_event();
         }
