@@ -1,0 +1,9 @@
+pub mod Frames
+pub mod JobWords
+pub mod FrontWords
+pub mod Passing
+pub mod Waits
+pub mod Jobs
+pub mod Pass
+pub mod Alike
+pub mod Rounds

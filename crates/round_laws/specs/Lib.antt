@@ -1,0 +1,3 @@
+pub mod Movers
+pub mod AtOnce
+pub mod Laws
