@@ -1,5 +1,5 @@
 -- The back asks what it asked before its jobs moved words, and all is quiet as it was.
-use Rattle.std.proofs.Common.{◌≡◌, ℕ, ◌<◌, ◌≤◌, Bool, true, false, not, ◌&&◌, ◌||◌, ◌==◌, cond, if◌then◌else◌, List, [], ◌∷◌, map, length, refl, sym, ap, ◌∙◌, subst, arith}
+use Rattle.std.proofs.Common.{◌≡◌, ℕ, ◌≤◌, Bool, true, false, not, ◌&&◌, ◌||◌, ◌==◌, cond, if◌then◌else◌, List, [], ◌∷◌, map, length, refl, sym, ap, ◌∙◌, arith}
 use Rattle.std.specs.Prelude.{Option, Some, None, position, find, nat_lt, option_and_then}
 use Rattle.std.specs.List.{AllByRecursion, position_or_len}
 use Rattle.std.proofs.lemmas.Bool.Decides.{nat_tests}
@@ -20,7 +20,7 @@ use Rattle.vbd_back.specs.View.{both}
 use Rattle.vbd_back.specs.Ask.{is_waiting, is_idle, ask_of, key_ask, ring_ask, bus_ask_of, bus_moves, ring_moves}
 use Rattle.round_laws.specs.Movers.{part_of, job_moved, JobGoesOn}
 use Rattle.round_laws.specs.AtOnce.{with_jobs}
-use Rattle.round_laws.proofs.JobWords.{IsLike, is_like, done_stays}
+use Rattle.round_laws.proofs.JobWords.{is_like, done_stays}
 
 -- the first that passes a test
 found_is : (p : Work → Bool) (works : List Work) → work_at works (position p works) ≡ find p works

@@ -1,6 +1,6 @@
 -- The front in the middle of a sector's words: what it asks after so many, and what one more makes of it.
-use Rattle.std.proofs.Common.{◌≡◌, ℕ, zero, suc, ◌+◌, ◌<◌, ◌≤◌, Bool, true, false, if◌then◌else◌, List, [], ◌∷◌, ◌++◌, map, length, refl, sym, ap, ◌∙◌, subst, arith}
-use Rattle.std.specs.Prelude.{Option, Some, None, IfSome, IsSome, IsSomeAnd, replicate, is_some}
+use Rattle.std.proofs.Common.{◌≡◌, ℕ, suc, ◌+◌, ◌<◌, ◌≤◌, Bool, true, false, if◌then◌else◌, List, [], ◌∷◌, ◌++◌, length, refl, sym, ap, ◌∙◌, subst, arith}
+use Rattle.std.specs.Prelude.{Option, Some, None, replicate, is_some}
 use Rattle.std.specs.List.{fold}
 use Rattle.std.proofs.lemmas.Option.{none-some}
 use Rattle.std.proofs.lemmas.List.{map-append, replicate_more}
@@ -11,8 +11,6 @@ use Rattle.blk_base.specs.declared.ask.FrontAnswer.{FrontAnswer}
 use Rattle.blk_base.specs.declared.ask.FrontAnswer.TheVariants.{Done, Word}
 use Rattle.xen_pages.specs.Pages.{word_of, words_of}
 use Rattle.blk_front.specs.declared.sector_part.SectorPart.{SectorPart as FrontPart}
-use Rattle.blk_front.specs.View as ring
-use Rattle.blk_front.specs.Keep.{ask_as, step_as}
 use Rattle.blk_front.specs.Part.{sector_part as ring_sector_part, HasWritten, HasRead, all_written, all_read, AllInTurn, AsksEach, AsksWords}
 use Rattle.blk_front.proofs.PartSteps as steps
 use Rattle.vbd_front.specs.View.{View, IsUnkept}

@@ -1,6 +1,6 @@
 -- A job in the middle of a sector's words: what it asks after so many, and what one more makes of it.
-use Rattle.std.proofs.Common.{◌≡◌, ◌≢◌, ℕ, zero, suc, ◌+◌, ◌-◌, ◌*◌, ◌<◌, ◌≤◌, Bool, true, false, true≢false, List, [], ◌∷◌, ◌++◌, take, drop, map, length, refl, sym, ap, ◌∙◌, subst, arith}
-use Rattle.std.specs.Prelude.{Option, Some, None, IfSome, replicate, slice_index, fold}
+use Rattle.std.proofs.Common.{◌≡◌, ℕ, suc, ◌+◌, ◌-◌, ◌*◌, ◌<◌, Bool, true, false, true≢false, List, [], ◌∷◌, length, refl, sym, ap, ◌∙◌, subst, arith}
+use Rattle.std.specs.Prelude.{Option, Some, None, replicate, slice_index}
 use Rattle.std.proofs.lemmas.Option.{none-some, same_Some}
 use Rattle.std.proofs.lemmas.List.{map-append, replicate_more, get_or-drop}
 use Rattle.std.proofs.lemmas.List.Sums.{fold-append}
@@ -14,12 +14,13 @@ use Rattle.hypervisor.specs.Hypervisor.{Hypervisor}
 use Rattle.back_jobs.specs.declared.part.SectorPart.{SectorPart as JobPart}
 use Rattle.back_jobs.specs.declared.stage.JobStage.{JobStage}
 use Rattle.back_jobs.specs.declared.stage.JobStage.TheVariants as stage
-use Rattle.back_jobs.specs.Work.{Work, ask_of, ask_at, step_of, word_at}
+use Rattle.back_jobs.specs.Work.{Work, ask_of, step_of}
 use Rattle.back_jobs.specs.Jobs.{is_done, is_done_at, is_fresh_at, effect_at}
 use Rattle.back_jobs.specs.Part.{part_from, part_at, values_at, words_read, words_written, steps_of}
-use Rattle.back_jobs.proofs.Parts.{put_each, read_to, read_more, read_steps, written_steps, steps_facts, IsMoving, moving_goes, Stays, stays_first, stays_last, reads_stay, written_stay}
+use Rattle.back_jobs.proofs.Parts.{put_each, read_to, read_more, read_steps, written_steps, steps_facts, moving_goes, Stays, stays_first, stays_last, reads_stay, written_stay}
 use Rattle.back_jobs.proofs.Kept.{Facts}
 use Rattle.blk_back.specs.View as back_ring
+use Rattle.vbd_model.specs.Mappings.{maps_at, maps_left}
 use Rattle.round_laws.specs.Movers.{part_of, frame_under, job_answers, job_moved, JobGoesOn}
 use Rattle.round_laws.proofs.Frames.{one_more, words_more, words_count}
 
@@ -118,9 +119,12 @@ module _ (h : Hypervisor) (t : Work) (m : Mapping) (k : ℕ) where
     write_like : (n : ℕ) → n < 128 - k → IsLike t (job_moved h n t)
     write_like n few = subst (IsLike t) (sym (writes n)) (like_steps m t (words_written n) (written_stay t m k n at few))
 
+    write_now : (n : ℕ) → n < 128 - k → job_moved h n t ≡ record t { stage = stage.WriteWord m (k + n) }
+    write_now n few = writes n ∙ written_steps t m k n at few
+
     write_next : (n : ℕ) → n < 128 - k → IsNext h n t (job_moved h n t) q
     write_next n few =
-        let now : job_moved h n t ≡ record t { stage = stage.WriteWord m (k + n) } = writes n ∙ written_steps t m k n at few in
+        let now = write_now n few in
         let sum : t.within * 128 + (k + n) ≡ t.within * 128 + k + n = omega arith in
         let value : slice_index t.words (k + n) ≡ slice_index (values_at t.stage t.words) n = sym (ap (λ (s : JobStage). slice_index (values_at s t.words) n) at ∙ get_or-drop k t.words n 0) in
         record {
@@ -152,3 +156,12 @@ is_like h n v t goes = by_stage t.stage refl goes
     by_stage (stage.ReadWord m k) at here = read_like h t m k at n here.0
     by_stage (stage.WriteWord m k) at here = write_like h t m k at n here.0
     by_stage s at here = subst (IsLike t) (sym (unmoved h n t (ap (λ (x : JobStage). part_at x t) at))) (record { number = refl; op = refl; done = refl })
+
+-- it may come to make as many mappings as before
+pub maps_same : (h : Hypervisor) (n : ℕ) (v : back_ring.View) (t : Work) → JobGoesOn n v t (part_of t) → maps_left (job_moved h n t) ≡ maps_left t
+maps_same h n v t goes = by_stage t.stage refl goes
+  where
+    by_stage : (s : JobStage) → t.stage ≡ s → JobGoesOn n v t (part_at s t) → maps_left (job_moved h n t) ≡ maps_left t
+    by_stage (stage.ReadWord m k) at here = ap maps_left (read_now h t m k at n here.0) ∙ sym (ap (λ (s : JobStage). maps_at s t) at)
+    by_stage (stage.WriteWord m k) at here = ap maps_left (write_now h t m k at n here.0) ∙ sym (ap (λ (s : JobStage). maps_at s t) at)
+    by_stage s at here = ap maps_left (unmoved h n t (ap (λ (x : JobStage). part_at x t) at))

@@ -1,16 +1,14 @@
 -- The jobs of a round, one after another: each comes to one word more, or waits.
-use Rattle.std.proofs.Common.{◌≡◌, ◌≢◌, ℕ, zero, suc, ◌+◌, ◌<◌, ◌≤◌, ◌==◌, Bool, true, false, not, ◌&&◌, ◌||◌, cond, if◌then◌else◌, List, [], ◌∷◌, ◌++◌, map, take, length, refl, sym, ap, ◌∙◌, subst, arith, append_assoc, length-append}
-use Rattle.std.specs.Prelude.{Option, Some, None, IfSome, is_some, position, find, nat_lt, slice_get, slice_set, slice_index, option_map}
+use Rattle.std.proofs.Common.{◌≡◌, ℕ, suc, ◌+◌, ◌<◌, ◌≤◌, ◌==◌, Bool, false, not, ◌&&◌, ◌||◌, cond, List, [], ◌∷◌, ◌++◌, length, refl, sym, ap, ◌∙◌, arith, length-append}
+use Rattle.std.specs.Prelude.{Option, Some, None, find, nat_lt, slice_get, option_map}
 use Rattle.std.specs.List.{AllByRecursion, list_any, position_or_len}
 use Rattle.std.proofs.lemmas.Bool.Decides.{nat_tests}
 use Rattle.std.proofs.lemmas.Bool.{eq-eqb, ne_eqb, lt-ltb}
-use Rattle.std.proofs.lemmas.List.{append-nil}
 use Rattle.std.proofs.lemmas.List.Folds.{list_any-append}
 use Rattle.std.proofs.Math.Seq.{set-append_seam, take-append_seam}
 use Rattle.back_jobs.proofs.Done.{passes}
-use Rattle.back_jobs.specs.Work.{Work, ask_of, step_of}
+use Rattle.back_jobs.specs.Work.{Work, step_of}
 use Rattle.back_jobs.specs.Jobs.{place_of, work_at, work_of, asked, waits_at, told_at, next_in, is_fresh_at, is_held, is_held_by, is_ordered, is_barrier, is_done, holds_barriers, holds_all}
-use Rattle.blk_base.specs.declared.ask.BackAsk.{BackAsk}
 use Rattle.blk_base.specs.declared.ask.BackAnswer.{BackAnswer}
 use Rattle.round_laws.proofs.JobWords.{IsLike}
 

@@ -7,3 +7,4 @@ pub mod Jobs
 pub mod Pass
 pub mod Alike
 pub mod Rounds
+pub mod Unseen

@@ -1,5 +1,5 @@
 -- A round's moves of the jobs: each job that moves words comes to one word more, and memory with it.
-use Rattle.std.proofs.Common.{◌≡◌, ◌≢◌, ℕ, zero, suc, ◌+◌, ◌<◌, ◌≤◌, Bool, true, false, ◌&&◌, if◌then◌else◌, List, [], ◌∷◌, ◌++◌, map, length, refl, sym, ap, ◌∙◌, subst, arith, append_assoc}
+use Rattle.std.proofs.Common.{◌≡◌, ◌≢◌, ℕ, suc, ◌+◌, ◌<◌, Bool, true, false, ◌&&◌, if◌then◌else◌, List, [], ◌∷◌, ◌++◌, map, length, refl, sym, ap, ◌∙◌, subst, arith, append_assoc}
 use Rattle.std.specs.Prelude.{Option, Some, None, IfSome, is_some, slice_index}
 use Rattle.std.specs.List.{AllByRecursion}
 use Rattle.blk_base.specs.declared.ask.BackAsk.{BackAsk}
@@ -9,32 +9,30 @@ use Rattle.blk_base.specs.declared.ask.BackAnswer.TheVariants.{Done, Word}
 use Rattle.blk_base.specs.declared.halt.Halt.{Halt}
 use Rattle.blk_base.specs.declared.moves.BackMover.TheVariants.{Job as JobOf}
 use Rattle.blk_io.specs.Disk.{DiskSeen}
-use Rattle.schedule_text.specs.declared.line.Line.{Line}
 use Rattle.schedule_text.specs.declared.line.Line.TheVariants.{Move}
-use Rattle.xen_pages.specs.Pages.{word_of, with_word}
+use Rattle.xen_pages.specs.Pages.{word_of}
 use Rattle.hypervisor.specs.Hypervisor.{Hypervisor}
 use Rattle.hypervisor.specs.Act.{BackAct, Took, back_act, with_pages}
 use Rattle.hypervisor.specs.Disk.{DiskDoes}
 use Rattle.back_jobs.specs.declared.part.SectorPart.{SectorPart as JobPart}
 use Rattle.back_jobs.specs.declared.effect.Effect.{Effect}
-use Rattle.back_jobs.specs.Work.{Work, ask_of, step_of}
+use Rattle.back_jobs.specs.Work.{Work, step_of}
 use Rattle.back_jobs.specs.Jobs.{place_of, work_of, asked, waits_at, told_at, is_fresh_at, is_held_by, effect_of, next_in}
 use Rattle.back_jobs.specs.Part.{values_at}
 use Rattle.blk_back.specs.declared.told.BackTold.{BackTold}
-use Rattle.blk_back.specs.View as back_ring
-use Rattle.blk_back.specs.Step.{job_ask_of, job_step, next_job_of, told_effect}
+use Rattle.blk_back.specs.Step.{job_ask_of, next_job_of, told_effect}
 use Rattle.split_model.specs.World as rings
 use Rattle.split_model.specs.Happening as ring
 use Rattle.split_model.specs.Shown.{back_lines}
 use Rattle.vbd_front.specs.View as front
 use Rattle.vbd_model.specs.World.{World}
-use Rattle.vbd_model.specs.Happening.{Happening, JobMoves, happens, after}
+use Rattle.vbd_model.specs.Happening.{Happening, JobMoves}
 use Rattle.vbd_model.specs.Kind.{AreEachJobs}
 use Rattle.round_laws.specs.Movers.{part_of, frame_under, job_moved, job_writes_to, job_writes, jobs_write, JobGoesOn, IsOutside, AreApart, AreAbove}
 use Rattle.round_laws.specs.AtOnce.{with_jobs, with_movers, Passes, IsMoveLine}
 use Rattle.round_laws.proofs.Frames.{Fits, AllFit, job_fits, jobs_fit, job_keeps, jobs_keep, jobs_past, job_more}
 use Rattle.round_laws.proofs.JobWords.{word_asked, word_answered, IsNext, next_word, IsLike, is_like, unmoved}
-use Rattle.round_laws.proofs.Jobs.{AreUpTo, IsBehind, none_behind, one_behind, held_same, place_there, work_there, told_there, asked_there, next_there, next_none}
+use Rattle.round_laws.proofs.Jobs.{IsBehind, one_behind, held_same, work_there, told_there, asked_there, next_there, next_none}
 use Rattle.round_laws.proofs.Passing.{passes_one, passes_none, passes_on, passes_to}
 
 -- on the frame of each of these jobs memory is as it was at first

@@ -1,14 +1,10 @@
 -- A round of words, and so many of them.
-use Rattle.std.proofs.Common.{◌≡◌, ◌≢◌, ℕ, zero, suc, ◌+◌, ◌<◌, ◌≤◌, Bool, true, false, not, ◌&&◌, List, [], ◌∷◌, ◌++◌, map, take, refl, sym, ap, ◌∙◌, subst, arith}
-use Rattle.std.specs.Prelude.{Option, Some, None, IfSome, replicate, fold}
+use Rattle.std.proofs.Common.{◌≡◌, ◌≢◌, ℕ, zero, suc, ◌+◌, ◌<◌, Bool, true, false, not, ◌&&◌, List, [], ◌∷◌, ◌++◌, map, refl, sym, ap, ◌∙◌, subst, arith}
+use Rattle.std.specs.Prelude.{Option, Some, None, IfSome, fold}
 use Rattle.std.specs.List.{AllByRecursion}
 use Rattle.blk_base.specs.declared.parts.End.TheVariants as end
-use Rattle.blk_base.specs.declared.ask.FrontAsk.{FrontAsk}
-use Rattle.blk_base.specs.declared.ask.FrontAsk.TheVariants as ask
-use Rattle.blk_base.specs.declared.ask.FrontAnswer.{FrontAnswer}
 use Rattle.blk_base.specs.declared.ask.FrontAnswer.TheVariants.{Done, Word}
-use Rattle.blk_io.specs.Disk.{DiskSeen}
-use Rattle.xen_pages.specs.Pages.{word_of, with_word, words_of}
+use Rattle.xen_pages.specs.Pages.{word_of}
 use Rattle.hypervisor.specs.Hypervisor.{Hypervisor}
 use Rattle.hypervisor.specs.Act.{FrontAct, front_act, with_pages, has_to_take}
 use Rattle.blk_front.specs.declared.sector_part.SectorPart.{SectorPart as FrontPart}
@@ -24,17 +20,17 @@ use Rattle.vbd_front.specs.Step.{step_of}
 use Rattle.vbd_front.specs.Part.{sector_part, steps_of}
 use Rattle.vbd_back.specs.Ask.{is_idle}
 use Rattle.vbd_model.specs.World.{World, frontend_of, backend_of, is_quiet}
-use Rattle.vbd_model.specs.Happening.{Happening, FrontMoves, BackMoves, after}
-use Rattle.vbd_model.specs.Kind.{AreEachJobs, AreAllJobs, IsRound, AreRounds, never, round_start}
+use Rattle.vbd_model.specs.Happening.{Happening, FrontMoves, BackMoves}
+use Rattle.vbd_model.specs.Kind.{AreAllJobs, IsRound, AreRounds, never, round_start}
 use Rattle.vbd_model.proofs.Joining.{rounds_more}
 use Rattle.round_laws.specs.Movers.{front_answers, front_answers_to, front_writes, front_writes_to, part_of, frame_under, job_moved, job_answers, job_answers_to, job_writes_to, job_writes, jobs_write, FrontGoesOn, JobGoesOn, IsOutside}
 use Rattle.round_laws.specs.AtOnce.{with_jobs, with_movers, front_moved, moved, AreOfWords, Passes, LeadThere}
 use Rattle.round_laws.specs.Laws.{RoundsLeadThere}
-use Rattle.round_laws.proofs.Frames.{AllFit, Fits, one_more, jobs_fit, job_keeps, jobs_keep, jobs_past, front_more, words_apart}
-use Rattle.round_laws.proofs.FrontWords.{IsNext, next_word, word_asked, word_answered}
+use Rattle.round_laws.proofs.Frames.{AllFit, one_more, jobs_fit, jobs_keep, jobs_past, front_more, words_apart}
+use Rattle.round_laws.proofs.FrontWords.{IsNext, next_word, word_asked}
 use Rattle.round_laws.proofs.Passing.{passes_none, passes_on, passes_to}
 use Rattle.round_laws.proofs.Waits.{IsWord, front_waits, front_moves, front_there, back_waits}
-use Rattle.round_laws.proofs.Jobs.{IsBehind, none_behind}
+use Rattle.round_laws.proofs.Jobs.{none_behind}
 use Rattle.round_laws.proofs.Pass.{AllAgree, Agrees, all_pass, JobsPass}
 use Rattle.round_laws.proofs.Alike.{back_waits_so, back_idle_so}
 

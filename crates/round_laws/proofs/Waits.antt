@@ -1,5 +1,5 @@
 -- An end that waits makes no move where neither an event nor a watch is pending there; and one that moves a word makes that move alone.
-use Rattle.std.proofs.Common.{◌≡◌, Bool, true, false, true≢false, not, ◌||◌, ◌&&◌, if◌then◌else◌, List, [], ◌∷◌, ◌++◌, refl, sym, ap, ◌∙◌, subst, ℕ, map}
+use Rattle.std.proofs.Common.{◌≡◌, Bool, true, false, true≢false, not, ◌||◌, ◌&&◌, if◌then◌else◌, List, [], ◌∷◌, ◌++◌, refl, sym, ap, ◌∙◌, subst, ℕ}
 use Rattle.std.specs.Prelude.{Option, Some, None}
 use Rattle.std.specs.List.{AllByRecursion}
 use Rattle.blk_base.specs.declared.parts.End.{End}
@@ -12,9 +12,8 @@ use Rattle.blk_base.specs.declared.ask.BackAsk.TheVariants as back_ask
 use Rattle.blk_base.specs.declared.ask.BackAnswer.{BackAnswer}
 use Rattle.blk_base.specs.declared.moves.BackMover.TheVariants as back_mover
 use Rattle.blk_io.specs.Disk.{DiskSeen}
-use Rattle.schedule_text.specs.declared.line.Line.{Line}
 use Rattle.schedule_text.specs.declared.line.Line.TheVariants.{Move}
-use Rattle.key_directory.specs.Watches.{next_watch, has_pending, is_empty_list, first_of, taken}
+use Rattle.key_directory.specs.Watches.{has_pending, is_empty_list, first_of, taken}
 use Rattle.key_directory.specs.Directory.{Directory, watches_of, with_watches}
 use Rattle.event_channel.specs.Channels.{is_pending}
 use Rattle.hypervisor.specs.Hypervisor.{Hypervisor}
@@ -43,8 +42,8 @@ use Rattle.vbd_back.specs.View as back_view
 use Rattle.vbd_back.specs.Ask as back
 use Rattle.vbd_back.specs.Step as back_step
 use Rattle.vbd_model.specs.World.{World, frontend_of, backend_of}
-use Rattle.vbd_model.specs.Happening.{FrontMoves, BackMoves, front_turn, back_turn, front_does, back_does, front_bus_after, back_bus_after, DiskGoes}
-use Rattle.vbd_laws.proofs.MovesTurns.{front_asks, back_asks, front_says, back_says, front_cases, back_cases, quiet_front, quiet_back, waits_quiet}
+use Rattle.vbd_model.specs.Happening.{FrontMoves, BackMoves, front_turn, back_turn, front_does, back_does, front_bus_after, back_bus_after}
+use Rattle.vbd_laws.proofs.MovesTurns.{front_asks, back_asks, front_cases, back_cases, quiet_front, quiet_back, waits_quiet}
 use Rattle.vbd_laws.proofs.MovesFront.{still_taken}
 use Rattle.round_laws.specs.AtOnce.{Passes, IsMoveLine}
 use Rattle.round_laws.proofs.Passing.{passes_one}

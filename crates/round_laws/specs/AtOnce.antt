@@ -1,10 +1,11 @@
 -- Rounds of nothing but words of sectors: the machine after so many of them, given outright.
-use Rattle.std.specs.Prelude.{◌≡◌, ℕ, Bool, true, false, List, map, Option, Some, None, IfSome}
+use Rattle.std.specs.Prelude.{◌≡◌, ℕ, true, false, List, map, None, IfSome}
 use Rattle.std.specs.List.{AllByRecursion}
 use Rattle.blk_base.specs.declared.parts.End.TheVariants as end
 use Rattle.blk_io.specs.Disk.{DiskSeen}
 use Rattle.schedule_text.specs.declared.line.Line.{Line}
 use Rattle.schedule_text.specs.declared.line.Line.TheVariants.{Move}
+use Rattle.schedule_text.specs.Recorder.{RecorderSeen}
 use Rattle.hypervisor.specs.Hypervisor.{Hypervisor}
 use Rattle.hypervisor.specs.Act.{has_to_take, with_pages}
 use Rattle.back_jobs.specs.Work.{Work}
@@ -15,6 +16,7 @@ use Rattle.vbd_back.specs.Ask.{is_waiting}
 use Rattle.vbd_model.specs.World.{World, frontend_of, backend_of, is_quiet}
 use Rattle.vbd_model.specs.Happening.{Happening, after, lines_of, DiskRuns}
 use Rattle.vbd_model.specs.Kind.{AreRounds, never}
+use Rattle.vbd_model.specs.Leads.{Leads, Keeps, moment}
 use Rattle.round_laws.specs.Movers.{front_answers, front_writes, part_of, job_moved, jobs_write, FrontGoesOn, JobGoesOn, IsOutside, AreApart, AreAbove}
 
 -- the machine with this front, these jobs and this memory; all else stays
@@ -69,3 +71,9 @@ pub record LeadThere (n : ℕ) (w : World) : Type 0 where
   pub unquiet : is_quiet w ≡ false → AreRounds is_quiet n w history
   pub still_quiet : is_quiet (moved n w) ≡ is_quiet w
   pub passes : Passes history w (moved n w)
+
+-- they lead there on a disk that stays as it is, for a recorder that stays so too, and no mapping more is made or may come
+pub record GoUnseen (n : ℕ) (w : World) (d : DiskSeen) (r : RecorderSeen) : Type 0 where
+  pub lead : Leads (AreRounds never n w) (moment w d r) (moment (moved n w) d r)
+  pub unquiet : is_quiet w ≡ false → Leads (AreRounds is_quiet n w) (moment w d r) (moment (moved n w) d r)
+  pub keeps : Keeps 0 (moment w d r) (moment (moved n w) d r)

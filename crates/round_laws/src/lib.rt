@@ -1,7 +1,7 @@
 //! Rounds of words of sectors lead where the words of all movers at once lead.
 #![tactic(auto)]
 
-ghost use Rattle.round_laws.specs.Laws.{RoundsLeadThere};
+ghost use Rattle.round_laws.specs.Laws.{RoundsLeadThere, RoundsGoUnseen};
 
 /// Where the back waits, the front is in the middle of a sector's words or waits, each job is too, and
 /// they move words of different frames, so many rounds lead where so many words of each mover at once
@@ -9,4 +9,10 @@ ghost use Rattle.round_laws.specs.Laws.{RoundsLeadThere};
 /// called; and where not all was quiet at first it isn't in between.
 pub fn rounds_of_words_lead_where_all_words_at_once_lead()
     ensures { RoundsLeadThere }
+{}
+
+/// A recorder that keeps no lines of moves is left by these rounds as it was, and so is the disk; no
+/// mapping more is made, or may come by the jobs that are held.
+pub fn rounds_of_words_go_unseen_without_lines_of_moves()
+    ensures { RoundsGoUnseen }
 {}
