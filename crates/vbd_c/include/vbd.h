@@ -36,11 +36,14 @@ enum vbd_status {
 };
 
 /* The disk's number of 512-byte sectors; the most segments of an indirect request, 0 to 960, where 0 turns them off; the
- * first ring index; and whether the disk is for reading alone. The ring's layout and its order come from the front's keys. */
+ * first ring index; whether the disk is for reading alone; and how many mappings are kept for later requests at most, 0 to
+ * 1000, where 0 turns that off (feature-persistent: only where the front publishes it too). The ring's layout and its order
+ * come from the front's keys. */
 struct vbd_options {
     uint64_t sectors;
     uint32_t indirect, start;
     bool read_only;
+    uint32_t persistent;
 };
 
 /* What is asked, and what answers it. */
@@ -66,7 +69,8 @@ enum vbd_kind {
 };
 
 /* Fields that a kind doesn't name are 0. Words are below 1024, sectors below the disk's. Of a mapping `gref` and `writes`
- * say what it was made of; it is one that was made and not unmapped, and is written through only where `writes`. */
+ * say what it was made of; it is one that was made and not unmapped, and is written through only where `writes`. At most
+ * 1529 mappings are held at once, with those that are kept. */
 struct vbd_ask {
     uint32_t kind, gref, word, value, port;
     bool writes;

@@ -15,10 +15,11 @@ struct vbd_front {
 };
 
 /* The order of the ring that is wished, 0 to 4: it gets 2^order pages, or as many as the back takes; the first ring index; and
- * whether entries have the layout of x86_32-abi. What else the back serves, indirect requests among it, comes from its keys. */
+ * whether entries have the layout of x86_32-abi; and whether grants are kept for later requests (feature-persistent: only where
+ * the back publishes it too). What else the back serves, indirect requests among it, comes from its keys. */
 struct vbd_front_options {
     uint32_t order, start;
-    bool x86_32;
+    bool x86_32, persistent;
 };
 
 /* What is asked, by enum vbd_kind; fields that a kind doesn't name are 0. Frames are below 1018 and words below 1024, of the

@@ -16,7 +16,8 @@ use Rattle.blk_front.specs.Submit.{is_ready, wish_of, most_segments, frames_take
 use Rattle.xenbus_state.specs.FrontView.{suspended as bus_suspended}
 use Rattle.vbd_front.specs.View.{View}
 use Rattle.vbd_front.specs.Ask.{bus_ask_of, speaks, ring_moves}
-use Rattle.vbd_front.specs.Step.{all_entered, states_after, spoken, ring_step, step_of, closes, suspended}
+use Rattle.vbd_front.specs.Step.{all_entered}
+use Rattle.vbd_front.specs.Keep.{KeepingView, with_ring, states_after_as, spoken_as, ring_step_as, step_as, closes_as, suspended_as}
 use Rattle.vbd_c.specs.FrontMove.{TellsOne, has_told, submitted}
 
 -- a submission is refused, and the front stays as it was, or accepted
@@ -44,15 +45,15 @@ module _ (P : Result ℕ Refusal × ring.View → Type 0) (v : ring.View) (s : S
       (either v.closing refusal.Closing _
       (either (not (is_ready v.stage)) refusal.NotReady _ (with_wish (wish_of v.offers s))))
 
-abbrev IsKept : View → Result ℕ Refusal × ring.View → Type 0
-IsKept v y = IfErr y.0 (λ (why : Refusal). (let after : View = record v { ring = y.1 } in after) ≡ v)
+abbrev IsKept : KeepingView → Result ℕ Refusal × ring.View → Type 0
+IsKept v y = IfErr y.0 (λ (why : Refusal). with_ring v y.1 ≡ v)
 
-pub refused_keeps : (v : View) (s : Submission) → IfErr (submit_of v.ring s).0 (λ (why : Refusal). submitted v s ≡ v)
-refused_keeps v s = submit_parts (IsKept v) v.ring s (λ why. refl) (λ wish taken. tt)
+pub refused_keeps : (v : KeepingView) (s : Submission) → IfErr (submit_of v.ends.ring s).0 (λ (why : Refusal). submitted v s ≡ v)
+refused_keeps v s = submit_parts (IsKept v) v.ends.ring s (λ why. refl) (λ wish taken. tt)
 
 -- neither end has anything to tell
-pub both_quiet : (v : View) → has_told v ≡ false → (v.ring.told ≡ None) × (v.news ≡ None)
-both_quiet v quiet = by_options v.ring.told v.news quiet
+pub both_quiet : (v : KeepingView) → has_told v ≡ false → (v.ends.ring.told ≡ None) × (v.ends.news ≡ None)
+both_quiet v quiet = by_options v.ends.ring.told v.ends.news quiet
   where
     by_options : {A B : Type 0} (a : Option A) (b : Option B) → (is_some a || is_some b) ≡ false → (a ≡ None) × (b ≡ None)
     by_options None None e = (refl, refl)
@@ -78,22 +79,25 @@ entering_all : (states : List FrontState) (r : ring.View) → (all_entered state
 entering_all [] r = refl
 entering_all (s ∷ rest) r = entering_all rest (enters s r) ∙ entering s r
 
-pub one_after_a_move : (v : View) (a : FrontAnswer) → has_told v ≡ false → TellsOne (step_of v a)
-one_after_a_move v a quiet = by_speaker (speaks (bus_ask_of v))
+pub one_after_a_move : (k : KeepingView) (a : FrontAnswer) → has_told k ≡ false → TellsOne (step_as k a)
+one_after_a_move k a quiet = by_speaker (speaks (bus_ask_of v))
   where
-    by_mover : (b : Bool) → TellsOne (ring_step b (bus_ask_of v) v a)
-    by_mover true = inr (both_quiet v quiet).1
-    by_mover false = inr (both_quiet v quiet).1
+    v : View
+    v = k.ends
 
-    by_speaker : (b : Bool) → TellsOne (if b then spoken v a else ring_step (ring_moves (bus_ask_of v) v.ring.stage) (bus_ask_of v) v a)
-    by_speaker true = inl (entering_all (states_after v a) v.ring ∙ (both_quiet v quiet).0)
+    by_mover : (b : Bool) → TellsOne (record k { ends = ring_step_as b k.keeps (bus_ask_of v) v a })
+    by_mover true = inr (both_quiet k quiet).1
+    by_mover false = inr (both_quiet k quiet).1
+
+    by_speaker : (b : Bool) → TellsOne (record k { ends = if b then spoken_as k.keeps v a else ring_step_as (ring_moves (bus_ask_of v) v.ring.stage) k.keeps (bus_ask_of v) v a })
+    by_speaker true = inl (entering_all (states_after_as k.keeps v a) v.ring ∙ (both_quiet k quiet).0)
     by_speaker false = by_mover (ring_moves (bus_ask_of v) v.ring.stage)
 
-pub one_as_it_closes : (v : View) → has_told v ≡ false → TellsOne (closes v)
-one_as_it_closes v quiet = inl (entering state.Closing v.ring ∙ (both_quiet v quiet).0)
+pub one_as_it_closes : (v : KeepingView) → has_told v ≡ false → TellsOne (closes_as v)
+one_as_it_closes v quiet = inl (entering state.Closing v.ends.ring ∙ (both_quiet v quiet).0)
 
-pub one_after_a_submission : (v : View) (s : Submission) → TellsOne v → TellsOne (submitted v s)
-one_after_a_submission v s one = submit_parts (λ y. TellsOne (record v { ring = y.1 })) v.ring s (λ why. one) (λ wish taken. one)
+pub one_after_a_submission : (v : KeepingView) (s : Submission) → TellsOne v → TellsOne (submitted v s)
+one_after_a_submission v s one = submit_parts (λ y. TellsOne (with_ring v y.1)) v.ends.ring s (λ why. one) (λ wish taken. one)
 
 suspending : (r : ring.View) → (ring_suspended r).told ≡ r.told
 suspending r = by_test (is_open r.stage)
@@ -102,16 +106,19 @@ suspending r = by_test (is_open r.stage)
     by_test true = refl
     by_test false = refl
 
-pub one_after_a_suspend : (v : View) → TellsOne v → TellsOne (suspended v)
-one_after_a_suspend v one = by_test (is_open v.ring.stage)
+pub one_after_a_suspend : (k : KeepingView) → TellsOne k → TellsOne (suspended_as k)
+one_after_a_suspend k one = by_test (is_open v.ring.stage)
   where
+    v : View
+    v = k.ends
+
     renewed : View
     renewed = record { ring = ring_suspended v.ring; bus = bus_suspended v.bus; news = v.news }
 
-    by_told : TellsOne v → TellsOne renewed
+    by_told : TellsOne k → TellsOne (record k { ends = renewed })
     by_told (inl e) = inl (suspending v.ring ∙ e)
     by_told (inr e) = inr e
 
-    by_test : (b : Bool) → TellsOne (if b then renewed else v)
+    by_test : (b : Bool) → TellsOne (record k { ends = if b then renewed else v })
     by_test true = by_told one
     by_test false = one

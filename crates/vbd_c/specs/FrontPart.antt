@@ -4,8 +4,8 @@ use Rattle.std.specs.List.{fold}
 use Rattle.blk_base.specs.declared.ask.FrontAnswer.{FrontAnswer}
 use Rattle.blk_front.specs.declared.sector_part.SectorPart.{SectorPart}
 use Rattle.blk_front.specs.Part.{HasWritten, HasRead, all_written, all_read}
-use Rattle.vbd_front.specs.View.{View}
-use Rattle.vbd_front.specs.Part.{sector_part, steps_of, AreTellable}
+use Rattle.vbd_front.specs.Part.{sector_part}
+use Rattle.vbd_front.specs.Keep.{KeepingView, steps_as, AreTellableAs}
 use Rattle.vbd_c.specs.declared.front_part.SectorPartNumbers.{SectorPartNumbers}
 use Rattle.vbd_c.specs.declared.status.Status.{Status}
 use Rattle.vbd_c.specs.declared.status.Status.TheVariants as status
@@ -33,64 +33,64 @@ has_read None count = false
 has_read (Some p) count = is_none p.value && nat_le count p.count
 
 -- then they are as many single answers, one after another, where nothing is left to tell; else nothing changes
-abbrev pub moved : Bool → View → List FrontAnswer → View
+abbrev pub moved : Bool → KeepingView → List FrontAnswer → KeepingView
 moved has v answers = if has_told v then v else (if has then fold answered v answers else v)
 
-abbrev pub moved_status : Bool → View → List FrontAnswer → Status
+abbrev pub moved_status : Bool → KeepingView → List FrontAnswer → Status
 moved_status has v answers = if has_told v then status.Untold else (if has then told_status (fold answered v answers) else status.NotAllowed)
 
 -- so many words were written, and these were read
-abbrev pub part_written : View → ℕ → View
-part_written v count = moved (has_written (sector_part v) count) v (all_written count)
+abbrev pub part_written : KeepingView → ℕ → KeepingView
+part_written v count = moved (has_written (sector_part v.ends) count) v (all_written count)
 
-abbrev pub written_status : View → ℕ → Status
-written_status v count = moved_status (has_written (sector_part v) count) v (all_written count)
+abbrev pub written_status : KeepingView → ℕ → Status
+written_status v count = moved_status (has_written (sector_part v.ends) count) v (all_written count)
 
-abbrev pub part_read : View → List ℕ → View
-part_read v words = moved (has_read (sector_part v) (length words)) v (all_read words)
+abbrev pub part_read : KeepingView → List ℕ → KeepingView
+part_read v words = moved (has_read (sector_part v.ends) (length words)) v (all_read words)
 
-abbrev pub read_status : View → List ℕ → Status
-read_status v words = moved_status (has_read (sector_part v) (length words)) v (all_read words)
+abbrev pub read_status : KeepingView → List ℕ → Status
+read_status v words = moved_status (has_read (sector_part v.ends) (length words)) v (all_read words)
 
 -- in the words of the front: what isn't asked for changes nothing, and what is, where nothing is left to tell, is one move with each answer in turn
-pub record IsMoved (asked : Type 0) (v : View) (answers : List FrontAnswer) (after : View) : Type 0 where
+pub record IsMoved (asked : Type 0) (v : KeepingView) (answers : List FrontAnswer) (after : KeepingView) : Type 0 where
   pub refused : ¬ asked → after ≡ v
-  pub each : has_told v ≡ false → asked → AreTellable v answers
-  pub taken : has_told v ≡ false → asked → after ≡ steps_of v answers
+  pub each : has_told v ≡ false → asked → AreTellableAs v answers
+  pub taken : has_told v ≡ false → asked → after ≡ steps_as v answers
 
 -- the words of a front that may not be there; its numbers are written where there are any
-abbrev pub part_in : Option View → Option SectorPart
+abbrev pub part_in : Option KeepingView → Option SectorPart
 part_in None = None
-part_in (Some v) = sector_part v
+part_in (Some v) = sector_part v.ends
 
 abbrev pub part_numbers : Option SectorPart → SectorPartNumbers → SectorPartNumbers
 part_numbers None before = before
 part_numbers (Some p) before = numbers_of p
 
 -- what the calls make of it, and say
-abbrev pub written_in : Option View → ℕ → Option View
+abbrev pub written_in : Option KeepingView → ℕ → Option KeepingView
 written_in None count = None
 written_in (Some v) count = Some (part_written v count)
 
-abbrev pub written_status_in : Option View → ℕ → Status
+abbrev pub written_status_in : Option KeepingView → ℕ → Status
 written_status_in None count = status.Empty
 written_status_in (Some v) count = written_status v count
 
-abbrev pub read_in : Option View → List ℕ → Option View
+abbrev pub read_in : Option KeepingView → List ℕ → Option KeepingView
 read_in None words = None
 read_in (Some v) words = Some (part_read v words)
 
-abbrev pub read_status_in : Option View → List ℕ → Status
+abbrev pub read_status_in : Option KeepingView → List ℕ → Status
 read_status_in None words = status.Empty
 read_status_in (Some v) words = read_status v words
 
 -- the same in the words of the front
-abbrev pub WrittenAs : Option View → ℕ → Option View → Type 0
+abbrev pub WrittenAs : Option KeepingView → ℕ → Option KeepingView → Type 0
 WrittenAs None count after = after ≡ None
 WrittenAs (Some v) count None = ⊥
-WrittenAs (Some v) count (Some after) = IsMoved (HasWritten (sector_part v) count) v (all_written count) after
+WrittenAs (Some v) count (Some after) = IsMoved (HasWritten (sector_part v.ends) count) v (all_written count) after
 
-abbrev pub ReadAs : Option View → List ℕ → Option View → Type 0
+abbrev pub ReadAs : Option KeepingView → List ℕ → Option KeepingView → Type 0
 ReadAs None words after = after ≡ None
 ReadAs (Some v) words None = ⊥
-ReadAs (Some v) words (Some after) = IsMoved (HasRead (sector_part v) (length words)) v (all_read words) after
+ReadAs (Some v) words (Some after) = IsMoved (HasRead (sector_part v.ends) (length words)) v (all_read words) after

@@ -1,13 +1,13 @@
 -- What each call makes of a handle, which has a back or none.
-use Rattle.std.specs.Prelude.{◌≡◌, ℕ, Bool, List, [], Option, Some, None, IsSome, if◌then◌else◌, nat_lt}
+use Rattle.std.specs.Prelude.{◌≡◌, ℕ, Bool, ◌||◌, List, [], Option, Some, None, IsSome, if◌then◌else◌, nat_lt}
 use Rattle.blk_base.specs.Options.{Options}
 use Rattle.blk_base.specs.declared.operation.Abi.TheVariants.{X64}
 use Rattle.blk_base.specs.declared.ask.BackAnswer.{BackAnswer}
 use Rattle.blk_base.specs.declared.ask.BackAnswer.TheVariants.{Key, Watched, Sector}
 use Rattle.blk_base.specs.declared.halt.Halt.{Halt}
 use Rattle.blk_back.specs.declared.told.BackTold.{BackTold}
-use Rattle.vbd_back.specs.View as back
-use Rattle.vbd_back.specs.Step.{closes, next_job_of}
+use Rattle.vbd_back.specs.Step.{next_job_of}
+use Rattle.vbd_back.specs.Keeping.{KeepingView, closes_keeping, renewed_keeping}
 use Rattle.vbd_c.specs.declared.options.BackOptions.{BackOptions}
 use Rattle.vbd_c.specs.declared.ask.AskNumbers.{AskNumbers}
 use Rattle.vbd_c.specs.declared.told.ToldNumbers.{ToldNumbers}
@@ -22,14 +22,14 @@ use Rattle.vbd_c.specs.Answer.{mapping_for, answered_by, status_by}
 use Rattle.vbd_c.specs.Told.{numbers_told, numbers_halted, key_of}
 use Rattle.vbd_c.specs.Bytes.{sector_of}
 
--- an indirect request may have up to 960 segments; layout and order come from the front's keys
+-- an indirect request may have up to 960 segments, and up to 1000 mappings may be kept; layout and order come from the front's keys
 abbrev pub options_of : BackOptions → Option Options
 options_of o =
-    if nat_lt 960 o.indirect then None
-    else Some (record { abi = X64; order = 0; persistent = 0; indirect = o.indirect; start = o.start; read_only = o.read_only; sectors = o.sectors })
+    if nat_lt 960 o.indirect || nat_lt 1000 o.persistent then None
+    else Some (record { abi = X64; order = 0; persistent = o.persistent; indirect = o.indirect; start = o.start; read_only = o.read_only; sectors = o.sectors })
 
 -- it is the new back, or nothing changed: memory lacked, or the program hadn't taken what the last move told
-abbrev pub SuspendedAs : back.View → View → View → Status → Type 0
+abbrev pub SuspendedAs : KeepingView → View → View → Status → Type 0
 SuspendedAs new before after status.Done = (before.told ≡ None) × (after ≡ record { back = new; told = None })
 SuspendedAs new before after status.NoMemory = (before.told ≡ None) × (after ≡ before)
 SuspendedAs new before after status.Untold = IsSome before.told × (after ≡ before)
@@ -38,7 +38,7 @@ SuspendedAs new before after s = ⊥
 abbrev pub SuspendedWith : (start : ℕ) (going : Bool) → Option View → Option View → Status → Type 0
 SuspendedWith start going None after s = (after ≡ None) × (s ≡ status.Empty)
 SuspendedWith start going (Some v) None s = ⊥
-SuspendedWith start going (Some v) (Some after) s = SuspendedAs (back.renewed start going v.back) v after s
+SuspendedWith start going (Some v) (Some after) s = SuspendedAs (renewed_keeping start going v.back) v after s
 
 abbrev pub SuspendedIn : (start : ℕ) (going : Bool) → Option View → Option View → ℕ → Type 0
 SuspendedIn start going before after code = (s : Status) × (code ≡ code_of s) × SuspendedWith start going before after s
@@ -101,7 +101,7 @@ number_or_zero (Some number) = number
 
 abbrev pub next_job_in : Option View → ℕ → ℕ
 next_job_in None after = 0
-next_job_in (Some v) after = number_or_zero (next_job_of v.back after)
+next_job_in (Some v) after = number_or_zero (next_job_of v.back.ends after)
 
 -- what was told is taken
 abbrev pub told_in : Option View → Option BackTold
@@ -119,7 +119,7 @@ heard_in (Some v) = Some (heard v)
 -- why the back halted
 abbrev pub halt_in : Option View → Option Halt
 halt_in None = None
-halt_in (Some v) = v.back.ring.halted
+halt_in (Some v) = v.back.ends.ring.halted
 
 abbrev pub halt_numbers : Option Halt → HaltNumbers → HaltNumbers
 halt_numbers None before = before
@@ -132,4 +132,4 @@ halt_key (Some why) = key_of why
 -- the back was asked to close
 abbrev pub closed_in : Option View → Option View
 closed_in None = None
-closed_in (Some v) = Some (closed (closes v.back) v)
+closed_in (Some v) = Some (closed (closes_keeping v.back) v)

@@ -7,4 +7,4 @@ abbrev pub view_of : Inside → View
 view_of h = record { back = h.back; told = h.told }
 
 abbrev pub IsQuiet : Inside → Type 0
-IsQuiet h = h.back.ring.told ≡ None
+IsQuiet h = h.back.ends.ring.told ≡ None

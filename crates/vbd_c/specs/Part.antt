@@ -1,10 +1,10 @@
 -- The words of a sector that a job asks for one after another, as the numbers that C reads, and many answers at once.
-use Rattle.std.specs.Prelude.{◌≡◌, ℕ, Bool, true, false, not, ◌&&◌, List, [], ◌++◌, length, take, drop, fold, min, Option, Some, None, is_some, if◌then◌else◌, ◌==◌, nat_le}
+use Rattle.std.specs.Prelude.{◌≡◌, ℕ, Bool, true, false, not, ◌&&◌, List, [], ◌++◌, length, take, drop, fold, min, IsPermutation, Option, Some, None, is_some, if◌then◌else◌, ◌==◌, nat_le}
 use Rattle.std.specs.Option.{IsSomeAnd}
 use Rattle.blk_base.specs.declared.ask.BackAsk.{BackAsk}
 use Rattle.blk_base.specs.declared.ask.BackAnswer.{BackAnswer}
 use Rattle.back_jobs.specs.declared.part.SectorPart.{SectorPart}
-use Rattle.blk_back.specs.Hands.{hands_of}
+use Rattle.blk_back.specs.Hands.{all_hands_of}
 use Rattle.vbd_back.specs.Part.{job_part, job_values}
 use Rattle.vbd_c.specs.declared.part.PartNumbers.{PartNumbers}
 use Rattle.vbd_c.specs.declared.status.Status.{Status}
@@ -17,11 +17,11 @@ numbers_of_part part = record { mapping = part.mapping.number; gref = part.mappi
 
 -- what a job asks for; the back itself, job 0, asks for one thing at a time
 abbrev pub part_of : View → ℕ → Option SectorPart
-part_of v job = if job == 0 then None else job_part v.back job
+part_of v job = if job == 0 then None else job_part v.back.ends job
 
 -- what is to be written to it
 abbrev pub values_of : View → ℕ → List ℕ
-values_of v job = if job == 0 then [] else job_values v.back job
+values_of v job = if job == 0 then [] else job_values v.back.ends job
 
 -- as many of these values as there is room for
 abbrev pub copied_values : List ℕ → List ℕ → ℕ
@@ -77,7 +77,7 @@ part_status_in (Some v) job writes count = part_status v job writes count
 pub record ArePartAnswered (v : View) (job : ℕ) (IsAllowed : SectorPart → Type 0) (answers : List BackAnswer) (after : View) : Type 0 where
   pub refused : ¬ (IsSomeAnd (part_of v job) IsAllowed) → after ≡ v
   pub taken : v.told ≡ None → IsSomeAnd (part_of v job) IsAllowed → after ≡ answered_each v job answers
-  pub hands : hands_of after.back.ring ≡ hands_of v.back.ring
+  pub hands : IsPermutation (all_hands_of v.back.ends.ring) (all_hands_of after.back.ends.ring)
   pub untold : after.told ≡ v.told
 
 abbrev pub PartAnsweredIn : Option View → ℕ → (IsAllowed : SectorPart → Type 0) → List BackAnswer → Option View → Type 0

@@ -1,7 +1,7 @@
 // What C calls: `include/vbd.h` says of each call what it is for, and what its numbers mean.
-ghost use Rattle.std.specs.Prelude.{◌≡◌, None, IfSome, is_some};
+ghost use Rattle.std.specs.Prelude.{◌≡◌, ◌≤◌, None, IfSome, is_some, length};
 ghost use Rattle.back_jobs.specs.Hands.{Names};
-ghost use Rattle.blk_back.specs.Hands.{hands_of};
+ghost use Rattle.blk_back.specs.Hands.{hands_of, all_hands_of, most_with_kept};
 ghost use Rattle.vbd_c.specs.Status.{code_of};
 ghost use Rattle.vbd_c.specs.Move.{ask_of, Stays};
 ghost use Rattle.vbd_c.specs.Answer.{answer_of};
@@ -23,8 +23,8 @@ use crate::told::{ToldNumbers, numbers_told};
 use blk_base::{BackAnswer, Lent};
 use std::alloc::Global;
 
-/// Makes a back in a handle that has none. `OutOfRange` where an indirect request might have more than 960 segments,
-/// `InUse`, or `NoMemory`: then nothing changes.
+/// Makes a back in a handle that has none. `OutOfRange` where an indirect request might have more than 960 segments, or more
+/// than 1000 mappings might be kept, `InUse`, or `NoMemory`: then nothing changes.
 #[unsafe(no_mangle)]
 pub extern "C" fn vbd_back_new(alloc: Global, back: &mut Handle, options: &BackOptions) -> u32
     ensures { MadeAs start_of (options_of options.now) back.old.place.held back.new.place.held result }
@@ -51,7 +51,8 @@ pub extern "C" fn vbd_back_ask(
     ensures held { back.new.place.held ≡ back.old.place.held }
     ensures ask { ask.new ≡ asked back.old.place.held job ask.old }
     ensures within { IfSome back.old.place.held (λ v. Stays v job (ask_of v job)) }
-    ensures names { IfSome back.old.place.held (λ v. Names (hands_of v.back.ring) (ask_of v job)) }
+    ensures names { IfSome back.old.place.held (λ v. Names (hands_of v.back.ends.ring) (ask_of v job)) }
+    ensures few { IfSome back.old.place.held (λ v. length (all_hands_of v.back.ends.ring) ≤ most_with_kept) }
     ensures status { result ≡ code_of (found back.old.place.held) }
 {
     let Some(held) = back.take(alloc) else {

@@ -1,8 +1,7 @@
 // What C calls of a front: `include/vbd_front.h` says of each call what it is for, and what its numbers mean.
 ghost use Rattle.std.specs.Prelude.{◌≡◌, None, IfSome, is_some};
-ghost use Rattle.vbd_front.specs.View.{start_of};
-ghost use Rattle.vbd_front.specs.Ask.{ask_of, StaysInMemory};
-ghost use Rattle.vbd_front.specs.Step.{step_of};
+ghost use Rattle.vbd_front.specs.Ask.{StaysInMemory};
+ghost use Rattle.vbd_front.specs.Keep.{start_as, ask_as, step_as};
 ghost use Rattle.vbd_front.specs.Part.{sector_part};
 ghost use Rattle.blk_front.specs.Part.{AsksEach, IsWithin};
 ghost use Rattle.vbd_c.specs.Status.{code_of};
@@ -37,7 +36,7 @@ pub extern "C" fn vbd_front_new(
     front: &mut FrontHandle,
     options: &FrontOptions,
 ) -> u32
-    ensures { MadeAs start_of (options_of options.now) front.old.place.held front.new.place.held result }
+    ensures { MadeAs start_as (options_of options.now) front.old.place.held front.new.place.held result }
 {
     front.make(alloc, options).code()
 }
@@ -59,7 +58,7 @@ pub extern "C" fn vbd_front_ask(
 ) -> u32
     ensures held { front.new.place.held ≡ front.old.place.held }
     ensures ask { ask.new ≡ asked front.old.place.held ask.old }
-    ensures within { IfSome front.old.place.held (λ v. StaysInMemory (ask_of v)) }
+    ensures within { IfSome front.old.place.held (λ v. StaysInMemory (ask_as v)) }
     ensures status { result ≡ code_of (found front.old.place.held) }
 {
     let Some(held) = front.take(alloc) else {
@@ -160,7 +159,7 @@ pub extern "C" fn vbd_front_part(
     ensures held { front.new.place.held ≡ front.old.place.held }
     ensures part { part.new ≡ part_numbers (part_in front.old.place.held) part.old }
     ensures any { result ≡ is_some (part_in front.old.place.held) }
-    ensures asked { IfSome front.old.place.held (λ v. IfSome (sector_part v) (AsksEach ask_of step_of v)) }
+    ensures asked { IfSome front.old.place.held (λ v. IfSome (sector_part v.ends) (AsksEach ask_as step_as v)) }
     ensures within { IfSome (part_in front.old.place.held) IsWithin }
 {
     let Some(held) = front.take(alloc) else {

@@ -1,6 +1,6 @@
 // What C holds of a front.
 ghost use Rattle.std.specs.Prelude.{◌≡◌, Some, None, is_some, MatchOption};
-ghost use Rattle.vbd_front.specs.View.{start_of};
+ghost use Rattle.vbd_front.specs.Keep.{start_as};
 ghost use Rattle.vbd_c.specs.Handle.{MadeWith};
 ghost use Rattle.vbd_c.specs.FrontHeld.{options_of, answered_in, status_in, AnsweredAs};
 
@@ -48,7 +48,7 @@ impl FrontHandle {
     /// Makes a front in it. `InUse` where it has one, `OutOfRange` where an option is, and `NoMemory` where there is not
     /// enough memory: then nothing changes.
     pub fn make(&mut self, alloc: Global, options: &FrontOptions) -> Status
-        ensures { MadeWith start_of (options_of options.now) self.old.place.held self.new.place.held result }
+        ensures { MadeWith start_as (options_of options.now) self.old.place.held self.new.place.held result }
     {
         if self.live {
             return Status::InUse;

@@ -1,9 +1,8 @@
 // A front that a program holds.
 ghost use Rattle.std.specs.Prelude.{◌≡◌, ◌⊎◌, None, IfOk, IfErr, IfSome, length};
 ghost use Rattle.blk_front.specs.Submit.{submit_of, unfinished, sectors_owed};
-ghost use Rattle.vbd_front.specs.View.{start_of, heard};
-ghost use Rattle.vbd_front.specs.Ask.{ask_of, StaysInMemory};
-ghost use Rattle.vbd_front.specs.Step.{step_of, suspended};
+ghost use Rattle.vbd_front.specs.Ask.{StaysInMemory};
+ghost use Rattle.vbd_front.specs.Keep.{start_as, ask_as, step_as, suspended_as, heard_as};
 ghost use Rattle.blk_front.specs.Part.{HasWritten, HasRead, all_written, all_read, AsksEach, IsWithin};
 ghost use Rattle.vbd_front.specs.Part.{sector_part};
 ghost use Rattle.vbd_c.specs.FrontPart.{part_written, written_status, part_read, read_status, IsMoved};
@@ -15,20 +14,20 @@ use blk_base::{Config, Endpoint, FrontAnswer, FrontAsk, OutOfMemory, Refusal, Su
 use blk_front::{SectorPart, Told};
 use std::alloc::Global;
 use std::marker::Model;
-use vbd_front::Frontend;
+use vbd_front::KeepingFrontend;
 use xenbus_state::FrontNews;
 
 /// A front, with what it has to tell, until that is taken.
 #[derive(Drop)]
 pub struct HeldFront {
-    front: Frontend,
+    front: KeepingFrontend,
 }
 
 impl Model for HeldFront {
-    ghost use Rattle.vbd_front.specs.View.{View};
+    ghost use Rattle.vbd_front.specs.Keep.{KeepingView};
     ghost use Rattle.vbd_c.specs.FrontMove.{TellsOne};
 
-    ghost Value = { View };
+    ghost Value = { KeepingView };
 
     ghost view = { λ h. h.front };
 
@@ -38,16 +37,16 @@ impl Model for HeldFront {
 impl HeldFront {
     /// A front that sets its watch first. It fails only where there is not enough memory.
     pub fn new(alloc: Global, config: &Config) -> Result<HeldFront, OutOfMemory>
-        ensures { IfOk result (λ held. held ≡ start_of config.now) }
+        ensures { IfOk result (λ held. held ≡ start_as config.now) }
     {
         Ok(HeldFront {
-            front: Frontend::new(alloc, config)?,
+            front: KeepingFrontend::new(alloc, config)?,
         })
     }
 
     /// What the front asks.
     pub fn ask(&self) -> FrontAsk<'_>
-        ensures value { result ≡ ask_of self.now }
+        ensures value { result ≡ ask_as self.now }
         ensures within { StaysInMemory result }
     {
         self.front.ask()
@@ -77,8 +76,8 @@ impl HeldFront {
 
     /// The words of a request's data that the front asks for next, up to the last word of their sector.
     pub fn sector_part(&self) -> Option<SectorPart>
-        ensures value { result ≡ sector_part self.now }
-        ensures asked { IfSome result (AsksEach ask_of step_of self.now) }
+        ensures value { result ≡ sector_part self.now.ends }
+        ensures asked { IfSome result (AsksEach ask_as step_as self.now) }
         ensures within { IfSome result IsWithin }
     {
         self.front.sector_part()
@@ -90,7 +89,7 @@ impl HeldFront {
     pub fn part_written(&mut self, count: usize) -> Status
         ensures held { self.new ≡ part_written self.old count }
         ensures status { result ≡ written_status self.old count }
-        ensures answered { IsMoved (HasWritten (sector_part self.old) count) self.old (all_written count) self.new }
+        ensures answered { IsMoved (HasWritten (sector_part self.old.ends) count) self.old (all_written count) self.new }
     {
         if self.front.has_told() {
             return Status::Untold;
@@ -109,7 +108,7 @@ impl HeldFront {
     pub fn part_read(&mut self, words: &[u32]) -> Status
         ensures held { self.new ≡ part_read self.old words.now }
         ensures status { result ≡ read_status self.old words.now }
-        ensures answered { IsMoved (HasRead (sector_part self.old) (length words.now)) self.old (all_read words.now) self.new }
+        ensures answered { IsMoved (HasRead (sector_part self.old.ends) (length words.now)) self.old (all_read words.now) self.new }
     {
         if self.front.has_told() {
             return Status::Untold;
@@ -130,7 +129,7 @@ impl HeldFront {
     /// Hands the front a request, and answers its number; a refusal is the first that applies, and changes nothing.
     #[tactic(auto, using(crate::proofs::FrontMoves::one_after_a_submission))]
     pub fn submit(&mut self, submission: Submission) -> Result<u32, Refusal>
-        ensures answer { result ≡ (submit_of self.old.ring submission).0 }
+        ensures answer { result ≡ (submit_of self.old.ends.ring submission).0 }
         ensures held { self.new ≡ submitted self.old submission }
         ensures refused { IfErr result (λ why. self.new ≡ self.old) }
     {
@@ -139,10 +138,10 @@ impl HeldFront {
 
     /// What happened at the ring, or what the negotiation came to, once.
     pub fn take_told(&mut self) -> (Option<Told>, Option<FrontNews>)
-        ensures told { result.0 ≡ self.old.ring.told }
-        ensures news { result.1 ≡ self.old.news }
+        ensures told { result.0 ≡ self.old.ends.ring.told }
+        ensures news { result.1 ≡ self.old.ends.news }
         ensures one { (result.0 ≡ None) ⊎ (result.1 ≡ None) }
-        ensures held { self.new ≡ heard self.old }
+        ensures held { self.new ≡ heard_as self.old }
     {
         self.front.take_told()
     }
@@ -168,15 +167,15 @@ impl HeldFront {
     /// The domain was suspended and resumes.
     #[tactic(auto, using(crate::proofs::FrontMoves::one_after_a_suspend))]
     pub fn suspend(&mut self)
-        ensures { self.new ≡ suspended self.old }
+        ensures { self.new ≡ suspended_as self.old }
     {
         self.front.suspend();
     }
 
     /// How many requests are unfinished, and how many sectors they move.
     pub fn owed(&self) -> (u32, u64)
-        ensures requests { result.0 ≡ unfinished self.now.ring }
-        ensures sectors { result.1 ≡ sectors_owed self.now.ring }
+        ensures requests { result.0 ≡ unfinished self.now.ends.ring }
+        ensures sectors { result.1 ≡ sectors_owed self.now.ends.ring }
     {
         self.front.owed()
     }

@@ -1,6 +1,6 @@
 // A place for a front, in a struct that can be handed to C.
 ghost use Rattle.std.specs.Prelude.{◌≡◌, Option, Some, None, IsSome};
-ghost use Rattle.vbd_front.specs.View.{View};
+ghost use Rattle.vbd_front.specs.Keep.{KeepingView};
 ghost use Rattle.vbd_c.specs.FrontOwned.{place_coded, place_owns};
 
 use crate::front_held::HeldFront;
@@ -15,7 +15,7 @@ use std::ptr::null_mut;
 pub struct FrontPlace {
     ptr: *mut u8,
     alloc: Global,
-    pub ghost held: { Option View } by { place_coded },
+    pub ghost held: { Option KeepingView } by { place_coded },
 }
 
 impl Model for FrontPlace {

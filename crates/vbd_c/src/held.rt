@@ -1,9 +1,9 @@
 // A back that a program holds.
-ghost use Rattle.std.specs.Prelude.{◌≡◌, ◌<◌, IfOk, IfSome, IsTrue, ◌↔◌, Some, None};
-ghost use Rattle.blk_back.specs.Hands.{hands_of};
-ghost use Rattle.back_jobs.specs.Hands.{Names, HandsAfter};
-ghost use Rattle.vbd_back.specs.View.{renewed};
-ghost use Rattle.vbd_back.specs.Step.{closes, next_job_of};
+ghost use Rattle.std.specs.Prelude.{◌≡◌, ◌<◌, ◌≤◌, length, IfOk, IfSome, IsTrue, ◌↔◌, Some, None};
+ghost use Rattle.blk_back.specs.Hands.{hands_of, all_hands_of, most_with_kept};
+ghost use Rattle.back_jobs.specs.Hands.{Names, HandsKeep};
+ghost use Rattle.vbd_back.specs.Step.{next_job_of};
+ghost use Rattle.vbd_back.specs.Keeping.{closes_keeping, renewed_keeping};
 ghost use Rattle.vbd_c.specs.View.{start_of};
 ghost use Rattle.vbd_c.specs.Move.{ask_of, Stays, IsAllowed, IsAnswered, allows, moved, answered, status_of, heard, closed};
 ghost use Rattle.vbd_c.specs.Answer.{mapping_for, answered_by, status_by};
@@ -18,12 +18,12 @@ use blk_back::BackTold;
 use blk_base::{BackAnswer, BackAsk, Config, Endpoint, Halt, OutOfMemory};
 use std::alloc::Global;
 use std::marker::Model;
-use vbd_back::Backend;
+use vbd_back::KeepingBackend;
 
 /// A back, and what its last move told, until that is taken.
 #[derive(Drop)]
 pub struct HeldBack {
-    back: Backend,
+    back: KeepingBackend,
     told: Option<BackTold>,
 }
 
@@ -44,7 +44,7 @@ impl HeldBack {
     pub fn new(alloc: Global, config: &Config) -> Result<HeldBack, OutOfMemory>
         ensures { IfOk result (λ held. held ≡ start_of config.now) }
     {
-        let back = Backend::new(alloc, config)?;
+        let back = KeepingBackend::new(alloc, config)?;
         Ok(HeldBack { back, told: None })
     }
 
@@ -52,7 +52,8 @@ impl HeldBack {
     pub fn ask(&self, job: u64) -> BackAsk<'_>
         ensures value { result ≡ ask_of self.now job }
         ensures within { Stays self.now job result }
-        ensures names { Names (hands_of self.now.back.ring) result }
+        ensures names { Names (hands_of self.now.back.ends.ring) result }
+        ensures few { length (all_hands_of self.now.back.ends.ring) ≤ most_with_kept }
     {
         if job == 0 {
             self.back.ask()
@@ -77,7 +78,7 @@ impl HeldBack {
     fn make_move(&mut self, job: u64, answer: &BackAnswer)
         requires { IsAllowed self.old job answer.now }
         ensures moved { self.new ≡ moved self.old job answer.now }
-        ensures hands { HandsAfter (ask_of self.old job) answer.now (hands_of self.old.back.ring) (hands_of self.new.back.ring) }
+        ensures hands { HandsKeep (ask_of self.old job) answer.now (all_hands_of self.old.back.ends.ring) (all_hands_of self.new.back.ends.ring) }
     {
         if job == 0 {
             let _ = self.back.tell(answer);
@@ -131,7 +132,7 @@ impl HeldBack {
 
     /// The least number above this one of a job that is held; `None` where there is none.
     pub fn next_job(&self, after: u64) -> Option<u64>
-        ensures value { result ≡ next_job_of self.now.back after }
+        ensures value { result ≡ next_job_of self.now.back.ends after }
         ensures above { IfSome result (λ next. after < next) }
     {
         self.back.next_job(after)
@@ -139,14 +140,14 @@ impl HeldBack {
 
     /// Why the back halted; `None` where it didn't.
     pub fn halted(&self) -> Option<Halt>
-        ensures { result ≡ self.now.back.ring.halted }
+        ensures { result ≡ self.now.back.ends.ring.halted }
     {
         self.back.halted()
     }
 
     /// The back is to close.
     pub fn close(&mut self)
-        ensures { self.new ≡ closed (closes self.old.back) self.old }
+        ensures { self.new ≡ closed (closes_keeping self.old.back) self.old }
     {
         self.back.close();
     }
@@ -155,7 +156,7 @@ impl HeldBack {
     /// isn't going on, one that has halted. `NoMemory` where there is not enough memory for it, and `Untold` where
     /// what the last move told wasn't taken yet: then nothing changes.
     pub fn suspend(&mut self, alloc: Global, start: u32, going: bool) -> Status
-        ensures { SuspendedAs (renewed start going self.old.back) self.old self.new result }
+        ensures { SuspendedAs (renewed_keeping start going self.old.back) self.old self.new result }
     {
         if self.told.is_some() {
             return Status::Untold;

@@ -24,7 +24,7 @@ pub extern "C" fn vbd_back_part(
     ensures any { result ≡ is_some (part_in back.old.place.held job) }
     ensures each { IfSome back.old.place.held (λ v. v.told ≡ None → IfSome (part_of v job) (λ part. AsksEach part (values_of v job) (asked_after v job))) }
     ensures within { IfSome (part_in back.old.place.held job) (λ part. IsWithinPage part) }
-    ensures names { IfSome back.old.place.held (λ v. IfSome (part_of v job) (λ part. NamesPart (hands_of v.back.ring) part)) }
+    ensures names { IfSome back.old.place.held (λ v. IfSome (part_of v job) (λ part. NamesPart (hands_of v.back.ends.ring) part)) }
 {
     let Some(held) = back.take(alloc) else {
         return false;

@@ -16,7 +16,7 @@ impl HeldBack {
         ensures value { result ≡ part_of self.now job }
         ensures each { self.now.told ≡ None → IfSome result (λ part. AsksEach part (values_of self.now job) (asked_after self.now job)) }
         ensures within { IfSome result (λ part. IsWithinPage part) }
-        ensures names { IfSome result (λ part. NamesPart (hands_of self.now.back.ring) part) }
+        ensures names { IfSome result (λ part. NamesPart (hands_of self.now.back.ends.ring) part) }
     {
         if job == 0 {
             return None;

@@ -11,13 +11,13 @@ use Rattle.std.proofs.Crossing as heap
 use Rattle.std_alloc.proofs.SendSync.{quiet, lies}
 use Rattle.std_heap.specs.contracts.Global as Heap
 use Rattle.std_heap.proofs.Global.TheSendSync as handle
-use Rattle.vbd_front.specs.View.{View}
+use Rattle.vbd_front.specs.Keep.{KeepingView}
 use Rattle.vbd_c.specs.FrontOwned.{place_owns}
 use Rattle.vbd_c.specs.contracts.front_held.HeldFront as Held
 use Rattle.vbd_c.proofs.front_held.HeldFront.TheSendSync.{the_send as held}
 use Rattle.vbd_c.specs.contracts.front_place.FrontPlace.{the_row, the_type}
 
-crosses : (a : Heap.the_row.Denot) (p : Ptr) (h : Option View) → Keyless (place_owns a p h)
+crosses : (a : Heap.the_row.Denot) (p : Ptr) (h : Option KeepingView) → Keyless (place_owns a p h)
 crosses a p None = tt
 crosses a p (Some v) = (lies Held.the_row held p v, heap.frees.frees a (raw (lone Held.the_row.mir)) p)
 

@@ -28,7 +28,7 @@ use Rattle.std.proofs.lemmas.Bool.{false≢true}
 use Rattle.std_alloc.proofs.BoxSteps.Form.{D, B, word, box_typed}
 use Rattle.std_alloc.proofs.BoxSteps.Steps.{box_out, box_in}
 use Rattle.std_heap.specs.contracts.Global as Heap
-use Rattle.vbd_front.specs.View.{View}
+use Rattle.vbd_front.specs.Keep.{KeepingView}
 use Rattle.vbd_c.specs.contracts.front_place.FrontPlace as Place
 use Rattle.vbd_c.proofs.AsFrontBox.{E, FromPlace as From}
 use Rattle.vbd_c.specs.contracts.front_place.FrontPlace.into_parts as F
@@ -42,14 +42,14 @@ stayed = (stay_dropped From yes, tt)
 module _ {M : Type 1} {𝓤 : Ura M} (𝓛 : Logic 𝓤) (at_mem : Memory → SProp 𝓤) (run : Routine → Fun 𝓤) (𝓣 : Tables 𝓤 𝓛.H) (p : Ptr) (a : Heap.the_row.Denot) (vs : List Val) where
   open 𝓛 use {H}
 
-  abbrev passed : Option View → (walk_of 𝓛 F.ended stayed (F.clauses 𝓛 at_mem run)).Ghost
+  abbrev passed : Option KeepingView → (walk_of 𝓛 F.ended stayed (F.clauses 𝓛 at_mem run)).Ghost
   passed h = ((tt, tt, tt, (record { ptr = p; alloc = a; held = h }, tt), (vs, tt)), tt)
 
-  walk : (h : Option View)
+  walk : (h : Option KeepingView)
       → ent 𝓤 ((walk_of 𝓛 F.ended stayed (F.clauses 𝓛 at_mem run)).pre (passed h)) (WpFn 𝓤 H 𝓣.C 𝓣.Λ code.function (vs ++ []) ((walk_of 𝓛 F.ended stayed (F.clauses 𝓛 at_mem run)).post (passed h)))
   walk None =
-      qed 𝓛 ((‵ ftrue ⊛ ‵ (fsep (Place.the_row.own_val (record { ptr = p; alloc = a; held = None }) vs) ftrue)) ∷ raw (fact 𝓤 (IsSome (let none : Option View = None in none))) ∷ []) ∵
-      move ! (1 ∷ []) $ heard ! (IsSome (let none : Option View = None in none)) (λ no. absurd (false≢true no))
+      qed 𝓛 ((‵ ftrue ⊛ ‵ (fsep (Place.the_row.own_val (record { ptr = p; alloc = a; held = None }) vs) ftrue)) ∷ raw (fact 𝓤 (IsSome (let none : Option KeepingView = None in none))) ∷ []) ∵
+      move ! (1 ∷ []) $ heard ! (IsSome (let none : Option KeepingView = None in none)) (λ no. absurd (false≢true no))
   walk (Some held) =
       let z = passed (Some held) in
       let Post = (walk_of 𝓛 F.ended stayed (F.clauses 𝓛 at_mem run)).post z in

@@ -1,7 +1,7 @@
 use Rattle.std.proofs.Common.{◌≡◌, true, false, length, refl, ap, subst, sym, ◌∙◌, rules}
 use Rattle.std.specs.Prelude.{is_some}
 use Rattle.back_jobs.specs.Part.{words_read, IsReadPart}
-use Rattle.vbd_back.specs.View as back
+use Rattle.vbd_back.specs.Keeping.{KeepingView}
 use Rattle.vbd_c.specs.Inside.{view_of}
 use Rattle.vbd_c.specs.Part.{part_of, takes, answered_each, part_answered, ArePartAnswered}
 use Rattle.vbd_c.specs.View.{View}
@@ -20,7 +20,7 @@ taken c =
 done : (c : After-job_tell_read) → record (view_of c.self.inside) { back = c.job_tell_read.new.self } ≡ answered_each (view_of c.self.inside) c.args.job (words_read c.args.words.now)
 done c =
     let v : View = view_of c.self.inside in
-    part_done v (record v { back = c.job_tell_read.new.self }) c.args.job false (length c.args.words.now) (words_read c.args.words.now) (quiet c) (taken c) (ap (λ (b : back.View). record v { back = b }) c.job_tell_read.ensures.stepped) c.job_tell_read.ensures.each
+    part_done v (record v { back = c.job_tell_read.new.self }) c.args.job false (length c.args.words.now) (words_read c.args.words.now) (quiet c) (taken c) (ap (λ (b : KeepingView). record v { back = b }) c.job_tell_read.ensures.stepped) c.job_tell_read.ensures.each
 
 pub returns-clause-held : goal.returns-clause-held
 returns-clause-held c =

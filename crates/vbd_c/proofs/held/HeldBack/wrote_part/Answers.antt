@@ -1,7 +1,7 @@
 use Rattle.std.proofs.Common.{◌≡◌, true, false, refl, ap, subst, sym, ◌∙◌, rules}
 use Rattle.std.specs.Prelude.{is_some}
 use Rattle.back_jobs.specs.Part.{words_written, IsWrittenPart}
-use Rattle.vbd_back.specs.View as back
+use Rattle.vbd_back.specs.Keeping.{KeepingView}
 use Rattle.vbd_c.specs.Inside.{view_of}
 use Rattle.vbd_c.specs.Part.{part_of, takes, answered_each, part_answered, ArePartAnswered}
 use Rattle.vbd_c.specs.View.{View}
@@ -20,7 +20,7 @@ taken c =
 done : (c : After-job_tell_written) → record (view_of c.self.inside) { back = c.job_tell_written.new.self } ≡ answered_each (view_of c.self.inside) c.args.job (words_written c.args.count)
 done c =
     let v : View = view_of c.self.inside in
-    part_done v (record v { back = c.job_tell_written.new.self }) c.args.job true c.args.count (words_written c.args.count) (quiet c) (taken c) (ap (λ (b : back.View). record v { back = b }) c.job_tell_written.ensures.stepped) c.job_tell_written.ensures.each
+    part_done v (record v { back = c.job_tell_written.new.self }) c.args.job true c.args.count (words_written c.args.count) (quiet c) (taken c) (ap (λ (b : KeepingView). record v { back = b }) c.job_tell_written.ensures.stepped) c.job_tell_written.ensures.each
 
 pub returns-clause-held : goal.returns-clause-held
 returns-clause-held c =
