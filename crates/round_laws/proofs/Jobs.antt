@@ -51,7 +51,7 @@ module _ (pre : List Work) (x : Work) (post : List Work) (from : ℕ) (all : Are
       ∙ (ap (λ (o : Option ℕ). asked (waits_at (pre ++ x ∷ post) o (Some x)) (Some x)) place_there
       ∙ ap (λ (l : List Work). asked (is_fresh_at x.stage x.moved && is_held_by l x) (Some x)) (take-append_seam pre (x ∷ post)))
 
-next_past : (pre : List Work) (rest : List Work) (from : ℕ) → AreUpTo from pre → next_in (pre ++ rest) from ≡ next_in rest from
+pub next_past : (pre : List Work) (rest : List Work) (from : ℕ) → AreUpTo from pre → next_in (pre ++ rest) from ≡ next_in rest from
 next_past [] rest from all = refl
 next_past (t ∷ pre) rest from all =
     let past : nat_lt from t.number ≡ false = (let low = all.0 in grind (arith, nat_tests)) in

@@ -8,3 +8,5 @@ pub mod Pass
 pub mod Alike
 pub mod Rounds
 pub mod Unseen
+pub mod Visiting
+pub mod Telling

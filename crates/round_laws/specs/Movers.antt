@@ -15,7 +15,7 @@ use Rattle.back_jobs.specs.declared.part.SectorPart.{SectorPart as JobPart}
 use Rattle.back_jobs.specs.Work.{Work}
 use Rattle.back_jobs.specs.Part.{part_at, values_at, words_read, words_written, steps_of}
 use Rattle.blk_back.specs.View as back_ring
-use Rattle.blk_back.specs.Step.{job_ask_of}
+use Rattle.blk_back.specs.Step.{job_ask_of, next_job_of}
 use Rattle.vbd_front.specs.View.{IsUnkept}
 use Rattle.vbd_front.specs.Ask.{is_waiting}
 use Rattle.vbd_model.specs.World.{World, frontend_of}
@@ -95,3 +95,8 @@ AreApart h (t ∷ works) = IfSome (part_of t) (λ p. IsOutside h (frame_under h 
 abbrev pub AreAbove : ℕ → List Work → Type 0
 AreAbove number [] = Unit {0}
 AreAbove number (t ∷ works) = (number < t.number) × AreAbove t.number works
+
+-- the jobs of these numbers come one after another from this number on, and after them none
+abbrev pub AreVisited : back_ring.View → (from : ℕ) → (numbers : List ℕ) → Type 0
+AreVisited v from [] = next_job_of v from ≡ None
+AreVisited v from (k ∷ numbers) = (next_job_of v from ≡ Some k) × AreVisited v k numbers

@@ -1,7 +1,7 @@
 //! Rounds of words of sectors lead where the words of all movers at once lead.
 #![tactic(auto)]
 
-ghost use Rattle.round_laws.specs.Laws.{RoundsLeadThere, RoundsGoUnseen};
+ghost use Rattle.round_laws.specs.Laws.{RoundsLeadThere, RoundsGoUnseen, EachIsVisited, TellsAtOnce};
 
 /// Where the back waits, the front is in the middle of a sector's words or waits, each job is too, and
 /// they move words of different frames, so many rounds lead where so many words of each mover at once
@@ -15,4 +15,16 @@ pub fn rounds_of_words_lead_where_all_words_at_once_lead()
 /// mapping more is made, or may come by the jobs that are held.
 pub fn rounds_of_words_go_unseen_without_lines_of_moves()
     ensures { RoundsGoUnseen }
+{}
+
+/// Where as many jobs come one after another by number as the back holds, they stand in order of number,
+/// as these laws ask, and each of them comes.
+pub fn jobs_that_all_come_stand_in_order()
+    ensures { EachIsVisited }
+{}
+
+/// A back whose job is told many words of a sector, one after another, is the one of these laws: that job
+/// is moved, and all else is as it was.
+pub fn a_job_that_is_told_many_words_is_moved()
+    ensures { TellsAtOnce }
 {}
