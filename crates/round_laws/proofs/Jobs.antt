@@ -16,7 +16,7 @@ use Rattle.round_laws.proofs.JobWords.{IsLike}
 abbrev pub AreUpTo : ℕ → List Work → Type 0
 AreUpTo number works = AllByRecursion (λ (t : Work). t.number ≤ number) works
 
-up_to_more : (from to : ℕ) (works : List Work) (t : Work) → from ≤ to → t.number ≤ to → AreUpTo from works → AreUpTo to (works ++ t ∷ [])
+pub up_to_more : (from to : ℕ) (works : List Work) (t : Work) → from ≤ to → t.number ≤ to → AreUpTo from works → AreUpTo to (works ++ t ∷ [])
 up_to_more from to [] t less this all = (this, tt)
 up_to_more from to (u ∷ works) t less this all = (let first = all.0 in omega (arith, first, less), up_to_more from to works t less this all.1)
 

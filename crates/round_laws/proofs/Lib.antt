@@ -10,3 +10,4 @@ pub mod Rounds
 pub mod Unseen
 pub mod Visiting
 pub mod Telling
+pub mod Asking

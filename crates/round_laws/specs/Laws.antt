@@ -1,5 +1,6 @@
 -- The laws of rounds of words.
 use Rattle.std.specs.Prelude.{◌≡◌, ℕ, ◌≤◌, List, ◌∷◌, ◌++◌, map, length, Some, None}
+use Rattle.std.specs.List.{AllByRecursion}
 use Rattle.blk_io.specs.Disk.{DiskSeen}
 use Rattle.schedule_text.specs.declared.line.Detail.TheVariants.{Lines}
 use Rattle.schedule_text.specs.Recorder.{RecorderSeen}
@@ -7,9 +8,9 @@ use Rattle.hypervisor.specs.Hypervisor.{Hypervisor}
 use Rattle.back_jobs.specs.declared.part.SectorPart.{SectorPart}
 use Rattle.back_jobs.specs.Work.{Work}
 use Rattle.blk_back.specs.View.{View}
-use Rattle.blk_back.specs.Part.{job_steps}
+use Rattle.blk_back.specs.Part.{job_part, job_steps}
 use Rattle.vbd_model.specs.World.{World}
-use Rattle.round_laws.specs.Movers.{part_of, job_answers_to, job_moved, AreAbove, AreVisited}
+use Rattle.round_laws.specs.Movers.{part_of, job_answers_to, job_moved, JobGoesOn, AreAbove, AreVisited, CallsSay}
 use Rattle.round_laws.specs.AtOnce.{with_jobs, AreOfWords, LeadThere, GoUnseen}
 
 -- so many rounds of nothing but words of sectors lead where all their words at once lead
@@ -25,6 +26,12 @@ abbrev pub EachIsVisited : Type 0
 EachIsVisited =
     (v : View) (numbers : List ℕ) → AreVisited v 0 numbers → length numbers ≡ length v.jobs.works
     → AreAbove 0 v.jobs.works × (map (λ (t : Work). t.number) v.jobs.works ≡ numbers)
+
+-- where the calls say of each that it goes on so long in its sector, or waits, so it is
+abbrev pub EachGoesOn : Type 0
+EachGoesOn =
+    (n : ℕ) (v : View) (numbers : List ℕ) → v.halted ≡ None → AreVisited v 0 numbers → length numbers ≡ length v.jobs.works
+    → AllByRecursion (λ k. CallsSay n v k (job_part v k)) numbers → AllByRecursion (λ (t : Work). JobGoesOn n v t (part_of t)) v.jobs.works
 
 -- a back whose job is told so many of its words, one after another, has that job moved, and all else as it was
 abbrev pub TellsAtOnce : Type 0

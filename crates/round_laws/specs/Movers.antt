@@ -16,6 +16,7 @@ use Rattle.back_jobs.specs.Work.{Work}
 use Rattle.back_jobs.specs.Part.{part_at, values_at, words_read, words_written, steps_of}
 use Rattle.blk_back.specs.View as back_ring
 use Rattle.blk_back.specs.Step.{job_ask_of, next_job_of}
+use Rattle.blk_back.specs.Part.{job_values}
 use Rattle.vbd_front.specs.View.{IsUnkept}
 use Rattle.vbd_front.specs.Ask.{is_waiting}
 use Rattle.vbd_model.specs.World.{World, frontend_of}
@@ -100,3 +101,8 @@ AreAbove number (t ∷ works) = (number < t.number) × AreAbove t.number works
 abbrev pub AreVisited : back_ring.View → (from : ℕ) → (numbers : List ℕ) → Type 0
 AreVisited v from [] = next_job_of v from ≡ None
 AreVisited v from (k ∷ numbers) = (next_job_of v from ≡ Some k) × AreVisited v k numbers
+
+-- the calls for the job of a number say that it goes on so long, or asks for no such word and waits
+abbrev pub CallsSay : ℕ → back_ring.View → (number : ℕ) → Option JobPart → Type 0
+CallsSay n v number (Some p) = (n < p.count) × (p.word + p.count ≤ 1024) × (p.writes ≡ true → p.count ≤ length (job_values v number))
+CallsSay n v number None = job_ask_of v number ≡ Wait

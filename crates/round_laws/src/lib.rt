@@ -1,7 +1,7 @@
 //! Rounds of words of sectors lead where the words of all movers at once lead.
 #![tactic(auto)]
 
-ghost use Rattle.round_laws.specs.Laws.{RoundsLeadThere, RoundsGoUnseen, EachIsVisited, TellsAtOnce};
+ghost use Rattle.round_laws.specs.Laws.{RoundsLeadThere, RoundsGoUnseen, EachIsVisited, EachGoesOn, TellsAtOnce};
 
 /// Where the back waits, the front is in the middle of a sector's words or waits, each job is too, and
 /// they move words of different frames, so many rounds lead where so many words of each mover at once
@@ -21,6 +21,12 @@ pub fn rounds_of_words_go_unseen_without_lines_of_moves()
 /// as these laws ask, and each of them comes.
 pub fn jobs_that_all_come_stand_in_order()
     ensures { EachIsVisited }
+{}
+
+/// Where the calls of a back say of each of them that it is in the middle of a sector's words with more
+/// than n left, or waits, so it is as these laws ask.
+pub fn jobs_go_on_as_the_calls_say()
+    ensures { EachGoesOn }
 {}
 
 /// A back whose job is told many words of a sector, one after another, is the one of these laws: that job
