@@ -7,7 +7,7 @@
 #include <unistd.h>
 
 static struct vbd_back back;
-static uint64_t moves, effects, replies, faults;
+static uint64_t moves, effects, replies, faults, maps;
 
 static void take(uint32_t status, const struct vbd_ask *ask) {
     struct vbd_told told;
@@ -27,7 +27,7 @@ static void map(uint64_t job, const struct vbd_ask *ask) {
     uint64_t mapping = 0;
     int32_t status = map_grant(ask->gref, ask->writes, &mapping);
     if (status) answer(job, ask, VBD_REFUSED, 0, status);
-    else take(vbd_back_mapped(&back, job, mapping), ask);
+    else maps++, take(vbd_back_mapped(&back, job, mapping), ask);
 }
 
 static void key(const struct vbd_ask *ask) {
@@ -149,7 +149,8 @@ static bool wait(void) {
 int run_back(void) {
     seed_of_thread(BACK);
     map_memory();
-    struct vbd_options disk_of = {disk_sectors(), options.indirect, options.start, options.read_only};
+    struct vbd_options disk_of = {.sectors = disk_sectors(), .indirect = options.indirect, .start = options.start,
+                                  .read_only = options.read_only, .persistent = options.persistent};
     if (vbd_back_new(&back, &disk_of) != VBD_DONE) die("the back can't be made");
     while (move_all() || wait())
         if (woken(outside.suspend)) suspend();
@@ -159,6 +160,7 @@ int run_back(void) {
     vbd_back_halt_key(&back, name, sizeof name - 1);
     printf("back: %" PRIu64 " moves, %" PRIu64 " effects, %" PRIu64 " replies, %" PRIu64 " faults; halted: reason %u, number %u %s; "
            "mappings held: %" PRIu64 "\n", moves, effects, replies, faults, halt.kind, halt.number, (char *)name, mappings_held());
+    if (options.persistent) printf("back: %" PRIu64 " maps\n", maps);
     vbd_back_free(&back);
     return halt.kind && mappings_held() ? 1 : 0;
 }

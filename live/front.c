@@ -190,7 +190,7 @@ static void serve(void) {
 
 int run_front(void) {
     struct timespec began, ended;
-    struct vbd_front_options made = {options.order, options.start, options.x86_32};
+    struct vbd_front_options made = {.order = options.order, .start = options.start, .x86_32 = options.x86_32, .persistent = options.persistent != 0};
     seed_of_thread(FRONT);
     map_memory();
     make_image();

@@ -23,14 +23,16 @@ struct outside outside;
 static const char usage[] =
     "host: the proved front and the proved back of a Xen block device on real shared memory\n"
     "\n"
-    "    host [--requests N] [--depth N] [--sectors N] [--order N] [--indirect N] [--abi 32|64] [--suspends N] [--start N]\n"
-    "         [--seed N] [--image FILE] [--read-only] [--data-only] [--delays] [--hostile] [--threads]\n"
+    "    host [--requests N] [--depth N] [--sectors N] [--order N] [--indirect N] [--abi 32|64] [--persistent N]\n"
+    "         [--suspends N] [--start N] [--seed N] [--image FILE] [--read-only] [--data-only] [--delays] [--hostile]\n"
+    "         [--threads]\n"
     "\n"
     "    --requests N   so many requests are served (20000)\n"
     "    --depth N      up to so many at once, 1 to 512 (32); what the ring has no entry for waits\n"
     "    --sectors N    of up to so many sectors, 1 to 88, or to 8 times the segments of --indirect (8)\n"
     "    --order N      the ring has 2^N pages, 0 to 4 (0)\n"
     "    --indirect N   an indirect request may have so many segments, 0 to 960; 0 turns them off (0)\n"
+    "    --persistent N the back keeps up to so many mappings, 0 to 1000, and the front its grants; 0 turns both off (0)\n"
     "    --abi N        the layout of the ring's entries: 64, of x86_64, or 32, of x86_32 (64)\n"
     "    --suspends N   the guest's domain is suspended so many times meanwhile (0)\n"
     "    --start N      the ring's first index, 0 to 4294967295 (0)\n"
@@ -203,6 +205,7 @@ int main(int count, char **words) {
         else if (!strcmp(word, "--sectors")) options.sectors_each = number(word, next, 1, 7680), i++;
         else if (!strcmp(word, "--order")) options.order = (uint32_t)number(word, next, 0, 4), i++;
         else if (!strcmp(word, "--indirect")) options.indirect = (uint32_t)number(word, next, 0, 960), i++;
+        else if (!strcmp(word, "--persistent")) options.persistent = (uint32_t)number(word, next, 0, 1000), i++;
         else if (!strcmp(word, "--abi") && next && (!strcmp(next, "32") || !strcmp(next, "64"))) options.x86_32 = *next == '3', i++;
         else if (!strcmp(word, "--suspends")) options.suspends = number(word, next, 0, 1000000), i++;
         else if (!strcmp(word, "--start")) options.start = (uint32_t)number(word, next, 0, UINT32_MAX), i++;

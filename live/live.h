@@ -22,7 +22,7 @@ enum { INITIALISING = 1, INIT_WAIT, INITIALISED, CONNECTED, CLOSING, CLOSED }; /
 
 struct options {
     uint64_t requests, depth, sectors_each, suspends, seed;
-    uint32_t start, order, indirect;
+    uint32_t start, order, indirect, persistent;
     bool x86_32, read_only, data_only, delays, hostile, threads;
     const char *image;
 };

@@ -72,7 +72,7 @@ int32_t map_grant(uint32_t gref, bool writes, uint64_t *mapping) {
         if (atomic_compare_exchange_weak(entry_of(gref), &seen, seen | READING | (writes ? WRITING : 0))) {
             if (held == MAPPINGS) die("more than %d mappings", MAPPINGS);
             do last_number++;
-            while (mappings[last_number % MAPPINGS].number); /* the ring's pages stay: their places are passed over */
+            while (mappings[last_number % MAPPINGS].number); /* the places of the ring's pages and of what is kept are passed over */
             mappings[last_number % MAPPINGS].number = *mapping = last_number;
             mappings[last_number % MAPPINGS].gref = gref;
             mappings[last_number % MAPPINGS].frame = frame;

@@ -27,7 +27,7 @@ static void a_handle_without_a_back(void) {
     struct vbd_ask ask = {.kind = 99};
     struct vbd_told told = {.kind = 99};
     struct vbd_halt halt = {.kind = 99};
-    struct vbd_options wide = {8, 961, 0, false};
+    struct vbd_options wide = {.sectors = 8, .indirect = 961}, kept = {.sectors = 8, .persistent = 1001};
     uint32_t words[128] = {0};
     uint8_t bytes[80];
     HOLDS(vbd_back_ask(&back, 0, &ask) == VBD_EMPTY && ask.kind == 99);
@@ -39,7 +39,7 @@ static void a_handle_without_a_back(void) {
     struct vbd_part part = {.count = 99};
     HOLDS(!vbd_back_part(&back, 1, &part) && part.count == 99 && vbd_back_part_words(&back, 1, words, 128) == 0);
     HOLDS(vbd_back_part_read(&back, 1, words, 1) == VBD_EMPTY && vbd_back_part_written(&back, 1, 1) == VBD_EMPTY);
-    HOLDS(vbd_back_new(&back, &wide) == VBD_OUT_OF_RANGE);
+    HOLDS(vbd_back_new(&back, &wide) == VBD_OUT_OF_RANGE && vbd_back_new(&back, &kept) == VBD_OUT_OF_RANGE);
     vbd_back_free(&back);
 }
 
@@ -70,6 +70,7 @@ static void a_front_that_connects(void) {
     while (asked(0).kind == VBD_GET_KEY) {
         if (path_is("/local/domain/1/device/vbd/51712/ring-ref")) HOLDS(key("8") == VBD_DONE);
         else if (path_is("/local/domain/1/device/vbd/51712/event-channel")) HOLDS(key("1") == VBD_DONE);
+        else if (path_is("/local/domain/1/device/vbd/51712/feature-persistent")) HOLDS(key("1") == VBD_DONE); /* asked for by one that keeps mappings */
         else HOLDS(answered(0, VBD_NO_KEY, 0) == VBD_DONE);
     }
     struct vbd_ask ask = asked(0);
@@ -91,7 +92,7 @@ static void it_halts_where_the_front_overruns_its_ring(void) {
 }
 
 static void suspends_and_the_end(void) {
-    struct vbd_options few = {8, 0, 0, true};
+    struct vbd_options few = {.sectors = 8, .read_only = true};
     struct vbd_halt halt = {0};
     HOLDS(vbd_back_suspend(&back, 7, true) == VBD_DONE && !vbd_back_halted(&back, &halt) && asked(0).kind == VBD_SET_KEY);
     HOLDS(vbd_back_suspend(&back, 7, false) == VBD_DONE && vbd_back_halted(&back, &halt) && halt.kind == VBD_GONE && halt.number == 6);
@@ -156,8 +157,37 @@ static void words_of_a_sector_that_is_read(void) {
     HOLDS(vbd_back_part_written(&back, 2, 28) == VBD_DONE && asked(2).kind == VBD_UNMAP && asked(2).mapping == 43);
 }
 
+/* Moves the back alone, of a ring in which so many writes from reference 9 are made; false once it waits. */
+static int moved(uint32_t made) {
+    static const uint32_t entry[28] = {[0] = 1 | 1 << 8, [2] = 71, [4] = 3, [6] = 9};
+    struct vbd_ask ask = asked(0);
+    struct vbd_told told;
+    uint32_t word = ask.word >= 16 ? entry[(ask.word - 16) % 28] : ask.word == 0 ? made : 0;
+    if (ask.kind == VBD_WAIT) return 0;
+    uint32_t status = answered(0, ask.kind == VBD_READ ? VBD_WORD : VBD_OK, word);
+    HOLDS(status == VBD_DONE || (status == VBD_TOLD && vbd_back_told(&back, &told) && told.kind == VBD_REPLY));
+    return 1;
+}
+
+/* The mapping of the first write serves the second, and is unmapped as the front is gone. */
+static void a_mapping_that_is_kept(void) {
+    static const char path[] = "/local/domain/1/device/vbd/51712/state";
+    struct vbd_told told;
+    uint32_t words[128] = {0};
+    for (uint32_t made = 1; made <= 2; made++) {
+        for (int i = 0; i < 200 && vbd_back_next_job(&back, made - 1) != made; i++) HOLDS(moved(made));
+        if (made == 1) HOLDS(asked(1).kind == VBD_MAP && asked(1).gref == 9 && asked(1).writes && vbd_back_mapped(&back, 1, 42) == VBD_DONE);
+        HOLDS(part_of(made).mapping == 42 && vbd_back_part_read(&back, made, words, 128) == VBD_DONE && asked(made).kind == VBD_DISK_WRITE);
+        HOLDS(answered(made, VBD_OK, 0) == VBD_TOLD && vbd_back_told(&back, &told) && asked(made).kind == VBD_WAIT);
+    }
+    for (int i = 0; i < 200 && moved(2); i++) {}
+    HOLDS(vbd_back_watched(&back, (const uint8_t *)path, strlen(path)) == VBD_DONE && path_is(path) && key("6") == VBD_DONE);
+    HOLDS(asked(0).kind == VBD_UNMAP && asked(0).mapping == 42 && answered(0, VBD_OK, 0) == VBD_DONE);
+    HOLDS(asked(0).kind == VBD_UNMAP && asked(0).mapping == 41 && answered(0, VBD_OK, 0) == VBD_DONE && asked(0).kind == VBD_CLOSE_PORT);
+}
+
 int main(void) {
-    struct vbd_options options = {8, 0, 0, false};
+    struct vbd_options options = {.sectors = 8};
     a_handle_without_a_back();
     HOLDS(vbd_back_new(&back, &options) == VBD_DONE && vbd_back_new(&back, &options) == VBD_IN_USE);
     what_a_back_publishes();
@@ -170,6 +200,12 @@ int main(void) {
     two_requests();
     words_of_a_sector_that_is_written();
     words_of_a_sector_that_is_read();
+    vbd_back_free(&back);
+    options.persistent = 1000;
+    HOLDS(vbd_back_new(&back, &options) == VBD_DONE);
+    what_a_back_publishes();
+    a_front_that_connects();
+    a_mapping_that_is_kept();
     vbd_back_free(&back);
     return wrong != 0;
 }

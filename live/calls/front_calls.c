@@ -39,7 +39,7 @@ static uint32_t unfinished(void) {
 static void a_handle_without_a_front(void) {
     struct vbd_front_ask ask = {.kind = 99};
     struct vbd_front_told told = {.kind = 99};
-    struct vbd_front_options wide = {5, 0, false};
+    struct vbd_front_options wide = {.order = 5};
     struct vbd_front_part part = {.count = 99};
     uint8_t bytes[80];
     uint32_t id = 99;
@@ -68,18 +68,20 @@ static void it_waits_for_its_back(void) {
     HOLDS(vbd_front_key(&front, (uint8_t *)long_text, 65) == VBD_OUT_OF_RANGE && key("2") == VBD_DONE);
 }
 
-/* It makes its ring from frame 2 on, whose reference is 8, says so in its keys, and connects as its back has (4). */
-static void it_connects(void) {
-    static const char *const offered[][2] = {{BACK "/sectors", "100"}, {BACK "/sector-size", "512"}, {BACK "/info", "0"}, {BACK "/state", "4"}};
+/* It makes its ring from frame 2 on, whose reference is 8, says so in its keys, and connects as its back has (4), which publishes
+ * that it keeps mappings. */
+static void it_connects(const char *keeps) {
+    static const char *const offered[][2] = {{BACK "/sectors", "100"}, {BACK "/sector-size", "512"}, {BACK "/info", "0"}, {BACK "/state", "4"}, {BACK "/feature-persistent", "1"}};
     struct vbd_front_told told = {.kind = 99};
     uint32_t status = VBD_DONE, writes = 0;
     for (int i = 0; i < 200 && status != VBD_TOLD; i++) {
         struct vbd_front_ask ask = asked();
         const char *text = 0;
-        for (int k = 0; k < 4; k++) if (path_is(offered[k][0])) text = offered[k][1];
+        for (int k = 0; k < 5; k++) if (path_is(offered[k][0])) text = offered[k][1];
         if (ask.kind == VBD_WRITE) HOLDS(ask.frame == 2 || (ask.frame == 0 && ask.word / 2 == 8)), writes++;
         if (path_is(FRONT "/ring-ref")) HOLDS(text_is("8"));
         if (path_is(FRONT "/event-channel")) HOLDS(text_is("5"));
+        if (path_is(FRONT "/feature-persistent")) HOLDS(text_is(keeps));
         if (ask.kind == VBD_GET_KEY) status = text ? key(text) : answered(VBD_NO_KEY, 0);
         else if (ask.kind == VBD_WAIT) status = vbd_front_watched(&front, (const uint8_t *)BACK "/state", strlen(BACK "/state"));
         else if (ask.kind != VBD_NEW_PORT) status = answered(VBD_OK, 0);
@@ -109,13 +111,14 @@ static struct vbd_front_part part_asked(void) {
 }
 
 /* Carries out what is asked on a memory of its own, until it waits or tells something. */
-static uint32_t memory[1018][1024];
+static uint32_t memory[1018][1024], grant_words, exchanges;
 static uint32_t moved(void) {
     uint32_t status = VBD_DONE;
     for (int i = 0; i < 1000 && status == VBD_DONE; i++) {
         struct vbd_front_ask ask = asked();
         uint32_t *word = &memory[ask.frame][ask.word], seen = *word;
         if (ask.kind == VBD_WAIT) break;
+        grant_words += ask.kind == VBD_WRITE && ask.frame < 2, exchanges += ask.kind == VBD_CAS;
         if (ask.kind == VBD_WRITE || (ask.kind == VBD_CAS && seen == ask.expected)) *word = ask.value;
         status = answered(ask.kind == VBD_READ || ask.kind == VBD_CAS ? VBD_WORD : VBD_OK, seen);
     }
@@ -151,19 +154,41 @@ static void it_moves_many_words_at_once(void) {
     HOLDS(told.kind == VBD_SECTOR && told.id == 2 && told.index == 0 && !memcmp(told.words, words, sizeof told.words) && unfinished() == 0);
 }
 
+/* Two writes of a sector, one after another: the frame is granted once, by the two words of its entry, and stays so until it leaves. */
+static void it_keeps_its_grants(void) {
+    struct vbd_front_told told;
+    uint32_t id;
+    memset(memory, 0, sizeof memory);
+    grant_words = exchanges = 0;
+    for (uint32_t i = 1; i <= 2; i++) {
+        const uint32_t response[] = {i, 0, VBD_OP_WRITE};
+        HOLDS(submitted(VBD_OP_WRITE, 1, 5, &id) == VBD_DONE && id == i && moved() == VBD_DONE && asked().kind == VBD_WAIT);
+        memcpy(&memory[2][16 + 28 * (i - 1)], response, sizeof response);
+        memory[2][2] = i;
+        HOLDS(answered(VBD_EVENT, 0) == VBD_DONE && moved() == VBD_TOLD && vbd_front_told(&front, &told) && told.kind == VBD_ANSWER && told.id == i);
+        HOLDS(moved() == VBD_DONE && grant_words == 2 && exchanges == 0);
+    }
+}
+
 int main(void) {
-    struct vbd_front_options options = {0, 0, false};
+    struct vbd_front_options options = {.order = 0};
     a_handle_without_a_front();
     HOLDS(vbd_front_new(&front, &options) == VBD_DONE && vbd_front_new(&front, &options) == VBD_IN_USE);
     it_waits_for_its_back();
-    it_connects();
+    it_connects("0");
     it_takes_and_refuses_requests();
     HOLDS(vbd_front_close(&front) == VBD_TOLD);
     vbd_front_free(&front);
     HOLDS(vbd_front_new(&front, &options) == VBD_DONE);
     it_waits_for_its_back();
-    it_connects();
+    it_connects("0");
     it_moves_many_words_at_once();
+    vbd_front_free(&front);
+    options.persistent = true;
+    HOLDS(vbd_front_new(&front, &options) == VBD_DONE);
+    it_waits_for_its_back();
+    it_connects("1");
+    it_keeps_its_grants();
     vbd_front_free(&front);
     return wrong != 0;
 }
