@@ -69,6 +69,11 @@ module _ (h : Hypervisor) (n : ℕ) where
       jobs_past works (job_writes h (part_of t) (values_at t.stage t.words) n pages) other u value fits.1 apart.1 short
       ∙ ap (λ (l : List ℕ). jobs_write h n works l) (job_past (part_of t) (values_at t.stage t.words) pages other u value fits.0 apart.0 short)
 
+-- a job that goes on so long goes on for less
+pub job_less : (n : ℕ) (v : back_ring.View) (t : Work) (o : Option JobPart) → JobGoesOn (suc n) v t o → JobGoesOn n v t o
+job_less n v t None goes = goes
+job_less n v t (Some p) goes = (let more = goes.0 in omega arith, goes.1, goes.2)
+
 -- so long jobs go on
 pub job_fits : (n : ℕ) (v : back_ring.View) (t : Work) (o : Option JobPart) (h : Hypervisor) → JobGoesOn n v t o → Fits h n o
 job_fits n v t None h goes = tt

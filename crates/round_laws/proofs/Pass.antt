@@ -30,7 +30,7 @@ use Rattle.vbd_model.specs.Happening.{Happening, JobMoves}
 use Rattle.vbd_model.specs.Kind.{AreEachJobs}
 use Rattle.round_laws.specs.Movers.{part_of, frame_under, job_moved, job_writes_to, job_writes, jobs_write, JobGoesOn, IsOutside, AreApart, AreAbove}
 use Rattle.round_laws.specs.AtOnce.{with_jobs, with_movers, Passes, IsMoveLine}
-use Rattle.round_laws.proofs.Frames.{Fits, AllFit, job_fits, jobs_fit, job_keeps, jobs_keep, jobs_past, job_more}
+use Rattle.round_laws.proofs.Frames.{job_less, Fits, AllFit, job_fits, jobs_fit, job_keeps, jobs_keep, jobs_past, job_more}
 use Rattle.round_laws.proofs.JobWords.{word_asked, word_answered, IsNext, next_word, IsLike, is_like, unmoved}
 use Rattle.round_laws.proofs.Jobs.{IsBehind, one_behind, held_same, work_there, told_there, asked_there, next_there, next_none}
 use Rattle.round_laws.proofs.Passing.{passes_one, passes_none, passes_on, passes_to}
@@ -214,10 +214,6 @@ module _ (w : World) (f : front.View) (told : w.rings.back.told ≡ None) (runs 
     pub last : next_job_of (with_jobs w.rings.back (now ++ map (job_moved h (suc n)) ts)) to ≡ None
     pub passes : Passes history (at (now ++ map (job_moved h n) ts) (jobs_write h n ts pages)) (at (now ++ map (job_moved h (suc n)) ts) (jobs_write h (suc n) ts pages))
 
-  goes_less : (n : ℕ) (t : Work) (o : Option JobPart) → JobGoesOn (suc n) w.rings.back t o → JobGoesOn n w.rings.back t o
-  goes_less n t None goes = goes
-  goes_less n t (Some p) goes = (let more = goes.0 in omega arith, goes.1, goes.2)
-
   pub all_pass : (n : ℕ) (ts : List Work) (from : ℕ) (before now : List Work) (pages : List ℕ) → w.rings.back.jobs.works ≡ before ++ ts → IsBehind from before now → AreAbove from ts
       → AllByRecursion (λ (t : Work). JobGoesOn (suc n) w.rings.back t (part_of t)) ts → AreApart h ts → AllAgree h pages ts → JobsPass n from now ts pages
   all_pass n [] from before now pages whole behind above goes apart agree = record {
@@ -231,7 +227,7 @@ module _ (w : World) (f : front.View) (told : w.rings.back.told ≡ None) (runs 
       let one : Work = job_moved h n t in
       let two : Work = job_moved h (suc n) t in
       let written : List ℕ = job_writes h (part_of t) (values_at t.stage t.words) (suc n) pages in
-      let like_one : IsLike t one = is_like h n w.rings.back t (goes_less n t (part_of t) goes.0) in
+      let like_one : IsLike t one = is_like h n w.rings.back t (job_less n w.rings.back t (part_of t) goes.0) in
       let like_two : IsLike t two = is_like h (suc n) w.rings.back t goes.0 in
       let fits : AllFit h (suc n) ts = jobs_fit (suc n) w.rings.back ts h goes.1 in
       let step = one_job n from before now t ts behind above.0 pages (part_of t) refl whole goes.0 like_one (all_fit_less h n ts fits) apart.0 agree.0 in

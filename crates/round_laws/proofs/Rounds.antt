@@ -26,7 +26,7 @@ use Rattle.vbd_model.proofs.Joining.{rounds_more}
 use Rattle.round_laws.specs.Movers.{front_answers, front_answers_to, front_writes, front_writes_to, part_of, frame_under, job_moved, job_answers, job_answers_to, job_writes_to, job_writes, jobs_write, FrontGoesOn, JobGoesOn, IsOutside}
 use Rattle.round_laws.specs.AtOnce.{with_jobs, with_movers, front_moved, moved, AreOfWords, Passes, LeadThere}
 use Rattle.round_laws.specs.Laws.{RoundsLeadThere}
-use Rattle.round_laws.proofs.Frames.{AllFit, one_more, jobs_fit, jobs_keep, jobs_past, front_more, words_apart}
+use Rattle.round_laws.proofs.Frames.{job_less, AllFit, one_more, jobs_fit, jobs_keep, jobs_past, front_more, words_apart}
 use Rattle.round_laws.proofs.FrontWords.{IsNext, next_word, word_asked}
 use Rattle.round_laws.proofs.Passing.{passes_none, passes_on, passes_to}
 use Rattle.round_laws.proofs.Waits.{IsWord, front_waits, front_moves, front_there, back_waits}
@@ -38,10 +38,6 @@ use Rattle.round_laws.proofs.Alike.{back_waits_so, back_idle_so}
 front_less : (n : ℕ) (w : World) (o : Option FrontPart) → FrontGoesOn (suc n) w o → FrontGoesOn n w o
 front_less n w None goes = goes
 front_less n w (Some p) goes = (let more = goes.0 in omega arith, goes.1, goes.2)
-
-job_less : (n : ℕ) (v : back_ring.View) (t : Work) (o : Option JobPart) → JobGoesOn (suc n) v t o → JobGoesOn n v t o
-job_less n v t None goes = goes
-job_less n v t (Some p) goes = (let more = goes.0 in omega arith, goes.1, goes.2)
 
 jobs_less : (n : ℕ) (v : back_ring.View) (works : List Work) → AllByRecursion (λ (t : Work). JobGoesOn (suc n) v t (part_of t)) works → AllByRecursion (λ (t : Work). JobGoesOn n v t (part_of t)) works
 jobs_less n v [] goes = tt

@@ -1,4 +1,4 @@
--- Jobs that are visited by number: where as many are visited as are held they stand in order, and each is visited. And what so many words at once make of the one that is visited.
+-- Jobs that are visited by number: where as many are visited as are held they stand in order, and each is visited.
 use Rattle.std.proofs.Common.{◌≡◌, ℕ, ◌<◌, ◌≤◌, Bool, true, false, cond, if◌then◌else◌, List, [], ◌∷◌, map, length, refl, sym, ap, ◌∙◌, subst, arith}
 use Rattle.std.specs.Prelude.{Some, None, is_some, find, nat_lt, option_map}
 use Rattle.std.proofs.lemmas.Bool.Decides.{nat_tests}

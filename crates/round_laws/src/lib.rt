@@ -1,12 +1,12 @@
-//! Rounds of words of sectors lead where the words of all movers at once lead.
+//! Rounds of words of sectors lead where the words of the front and of all jobs at once lead.
 #![tactic(auto)]
 
 ghost use Rattle.round_laws.specs.Laws.{RoundsLeadThere, RoundsGoUnseen, EachIsVisited, EachGoesOn, TellsAtOnce};
 
 /// Where the back waits, the front is in the middle of a sector's words or waits, each job is too, and
-/// they move words of different frames, so many rounds lead where so many words of each mover at once
-/// lead: each reads what memory held at first. Nothing is told, moves alone are shown, and no disk is
-/// called; and where not all was quiet at first it isn't in between.
+/// they move words of different frames, so many rounds lead where so many words of the front and of each
+/// job at once lead: each reads what memory held at first. Nothing is told, moves alone are shown, and no
+/// disk is called; and where not all was quiet at first it isn't in between.
 pub fn rounds_of_words_lead_where_all_words_at_once_lead()
     ensures { RoundsLeadThere }
 {}
