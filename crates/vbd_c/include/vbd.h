@@ -70,7 +70,8 @@ enum vbd_kind {
 
 /* Fields that a kind doesn't name are 0. Words are below 1024, sectors below the disk's. Of a mapping `gref` and `writes`
  * say what it was made of; it is one that was made and not unmapped, and is written through only where `writes`. At most
- * 1529 mappings are held at once, with those that are kept. */
+ * 1529 mappings are held at once, with those that are kept. A kept one is used for each request that names its reference,
+ * without another VBD_MAP, until VBD_UNMAP. */
 struct vbd_ask {
     uint32_t kind, gref, word, value, port;
     bool writes;

@@ -14,7 +14,7 @@ struct vbd_front {
     void *at;
 };
 
-/* The order of the ring that is wished, 0 to 4: it gets 2^order pages, or as many as the back takes; the first ring index; and
+/* The order of the ring that is wished, 0 to 4: it gets 2^order pages, or as many as the back takes; the first ring index;
  * whether entries have the layout of x86_32-abi; and whether grants are kept for later requests (feature-persistent: only where
  * the back publishes it too). What else the back serves, indirect requests among it, comes from its keys. */
 struct vbd_front_options {
