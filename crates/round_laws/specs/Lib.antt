@@ -1,3 +1,0 @@
-pub mod Movers
-pub mod AtOnce
-pub mod Laws
