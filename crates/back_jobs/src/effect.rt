@@ -1,7 +1,7 @@
 // What a job's move does.
 
 /// What a job's move did to its request, by the request's id.
-#[derive(Clone, Copy, Debug, PartialEq, Eq)]
+#[derive(Clone, Copy, PartialEq, Eq)]
 pub enum Effect {
     /// The sector at this place of it, from 0, was read from or written to the disk.
     Moved { id: u64, index: u32 },

@@ -3,7 +3,7 @@ use blk_base::Mapping;
 
 /// The words of a sector that a job has read from its frame or written to it next, one after another
 /// up to the sector's last one, through one mapping.
-#[derive(Clone, Copy, Debug, PartialEq, Eq)]
+#[derive(Clone, Copy, PartialEq, Eq)]
 pub struct SectorPart {
     /// What the frame is mapped by.
     pub mapping: Mapping,

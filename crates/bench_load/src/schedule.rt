@@ -9,7 +9,7 @@ use schedule_text::Event;
 use std::marker::Model;
 
 /// What comes next.
-#[derive(Clone, Copy, Debug, PartialEq, Eq)]
+#[derive(Clone, Copy)]
 pub enum Next {
     /// The first `settle`.
     First,

@@ -2,7 +2,7 @@
 use blk_base::Status;
 
 /// What happened at the back or one of its jobs in its last move.
-#[derive(Clone, Copy, Debug, PartialEq, Eq)]
+#[derive(Clone, Copy, PartialEq, Eq)]
 pub enum BackTold {
     /// A sector of a request was written to the disk or read from it.
     Effect { id: u64, index: u32 },

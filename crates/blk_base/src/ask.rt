@@ -15,7 +15,7 @@ pub type KeyName = ShortText<32>;
 
 /// What the front asks: one word of its own memory, one hypercall, one key or one event.
 /// Frames and words are numbers below 1088 and 1024.
-#[derive(Debug, Drop, PartialEq)]
+#[derive(Drop, PartialEq)]
 pub enum FrontAsk<'a> {
     /// Answered by `Event` or `Watched`.
     Wait,
@@ -54,7 +54,7 @@ pub enum FrontAsk<'a> {
 }
 
 /// What the front is answered.
-#[derive(Debug, Drop, PartialEq)]
+#[derive(Drop)]
 pub enum FrontAnswer<'a> {
     Event,
     Watched(Lent<'a, Path>),
@@ -66,7 +66,7 @@ pub enum FrontAnswer<'a> {
 
 /// What the back or one of its jobs asks: one word through a mapping, one hypercall, one key, one
 /// event or one call of the disk. Words are numbers below 1024.
-#[derive(Debug, Drop, PartialEq)]
+#[derive(Drop, PartialEq)]
 pub enum BackAsk<'a> {
     /// Answered by `Event` or `Watched`; a job's has no answer.
     Wait,
@@ -113,7 +113,7 @@ pub enum BackAsk<'a> {
 }
 
 /// What the back or one of its jobs is answered.
-#[derive(Debug, Drop, PartialEq)]
+#[derive(Drop)]
 pub enum BackAnswer<'a> {
     Event,
     Watched(Lent<'a, Path>),

@@ -5,7 +5,7 @@ use crate::operation::Abi;
 use std::marker::Model;
 
 /// How many sectors a request moves: 1 to 4294967295.
-#[derive(Clone, Copy, Debug, PartialEq, Eq)]
+#[derive(Clone, Copy, PartialEq, Eq)]
 pub struct SectorCount {
     value: u32,
 }
@@ -47,7 +47,7 @@ impl SectorCount {
 
 /// What a front is asked to do with the disk. `sector` is the first 512-byte sector; sector `i` of
 /// a write or barrier is filled with the word `tag + i` modulo 2^32.
-#[derive(Clone, Copy, Debug, PartialEq, Eq)]
+#[derive(Clone, Copy, PartialEq, Eq)]
 pub enum Submission {
     Read {
         sector: u64,
@@ -74,7 +74,7 @@ pub enum Submission {
 /// pages), how many mappings the back keeps (0 to 1000; 0 turns persistent grants off), how many
 /// segments an indirect request may have (0 to 960; 0 turns them off), the first ring index,
 /// whether the disk is read-only, and its number of 512-byte sectors.
-#[derive(Clone, Copy, Debug, PartialEq, Eq)]
+#[derive(Clone, Copy, PartialEq, Eq)]
 pub struct Config {
     pub abi: Abi,
     pub order: u32,

@@ -2,7 +2,7 @@
 use crate::ask::KeyName;
 
 /// Why the back halts. It serves nothing more then, until it is made anew.
-#[derive(Clone, Copy, Debug, PartialEq, Eq)]
+#[derive(Clone, Copy, PartialEq, Eq)]
 pub enum Halt {
     /// The front's producer was this, further ahead of the back's own producer than the ring has
     /// entries (`RING_REQUEST_PROD_OVERFLOW` of `io/ring.h`).

@@ -4,7 +4,7 @@ ghost use Rattle.blk_base.specs.Distance.{distance_of, IsDistance};
 
 /// A ring index (`RING_IDX` of `io/ring.h`): it runs freely through all 32 bits and wraps; entry
 /// `k` of a ring of `N` entries is at place `k` modulo `N`.
-#[derive(Clone, Copy, Debug, PartialEq, Eq)]
+#[derive(Clone, Copy, PartialEq, Eq)]
 pub struct Idx(pub u32);
 
 impl Idx {

@@ -4,7 +4,7 @@ ghost use Rattle.std.specs.Prelude.{◌≡◌};
 use std::marker::Model;
 
 /// A value that lies elsewhere. To contracts it is that value.
-#[derive(Debug, Drop)]
+#[derive(Drop)]
 pub struct Lent<'a, T> {
     place: &'a T,
 }

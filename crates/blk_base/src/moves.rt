@@ -4,14 +4,14 @@ use crate::parts::Mode;
 
 /// Who moves on the back's side: the back itself, or the job of the `k`-th request that it fetched
 /// in this epoch, from 1.
-#[derive(Clone, Copy, Debug, PartialEq, Eq)]
+#[derive(Clone, Copy, PartialEq, Eq)]
 pub enum BackMover {
     Back,
     Job(u64),
 }
 
 /// Who moves.
-#[derive(Clone, Copy, Debug, PartialEq, Eq)]
+#[derive(Clone, Copy, PartialEq, Eq)]
 pub enum Mover {
     Front,
     Back,
@@ -20,7 +20,7 @@ pub enum Mover {
 
 /// A read or a write of one word, as a report's `m` line shows it: what most moves are. Frames and words
 /// have 32 bits, mapping numbers 64.
-#[derive(Clone, Copy, Debug, PartialEq, Eq)]
+#[derive(Clone, Copy)]
 pub enum Access {
     FrontRead {
         frame: u32,
@@ -50,7 +50,7 @@ pub enum Access {
 
 /// One move with its answer, as a report's `m` line shows it. Frames, words, ports and grant
 /// references have 32 bits, mapping numbers and disk sectors 64.
-#[derive(Clone, Copy, Debug, PartialEq, Eq)]
+#[derive(Clone, Copy, PartialEq, Eq)]
 pub enum Move {
     FrontRead {
         frame: u32,

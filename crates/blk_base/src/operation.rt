@@ -4,14 +4,14 @@ ghost use Rattle.blk_base.specs.Operation.{op_code, status_code};
 
 /// The layout of a ring's entries, by the guest's processor mode (`BLKIF` protocols
 /// `x86_64-abi` and `x86_32-abi`).
-#[derive(Clone, Copy, Debug, PartialEq, Eq)]
+#[derive(Clone, Copy, PartialEq, Eq)]
 pub enum Abi {
     X64,
     X32,
 }
 
 /// An operation that `io/blkif.h` names (`BLKIF_OP_*`); number 4 is reserved there.
-#[derive(Clone, Copy, Debug, PartialEq, Eq)]
+#[derive(Clone, Copy, PartialEq, Eq)]
 pub enum Op {
     Read,
     Write,
@@ -22,7 +22,7 @@ pub enum Op {
 }
 
 /// How a request ended (`BLKIF_RSP_*` of `io/blkif.h`).
-#[derive(Clone, Copy, Debug, PartialEq, Eq)]
+#[derive(Clone, Copy, PartialEq, Eq)]
 pub enum Status {
     Okay,
     Error,

@@ -1,7 +1,7 @@
 // What an end holds of the other.
 
 /// An end of the ring: the front is domain 1's, the back is domain 0's.
-#[derive(Clone, Copy, Debug, PartialEq, Eq)]
+#[derive(Clone, Copy, PartialEq, Eq)]
 pub enum End {
     Front,
     Back,
@@ -9,7 +9,7 @@ pub enum End {
 
 /// How a granted frame is mapped: for reading alone, or for writing too
 /// (`GNTMAP_readonly` set or not, `grant_table.h`).
-#[derive(Clone, Copy, Debug, Default, PartialEq, Eq)]
+#[derive(Clone, Copy, Default, PartialEq, Eq)]
 pub enum Mode {
     #[default]
     ReadOnly,
@@ -18,7 +18,7 @@ pub enum Mode {
 
 /// A granted frame that the back has mapped. Numbers ascend from 1 over a whole run and are never
 /// used again; `gref` is the grant reference that was mapped.
-#[derive(Clone, Copy, Debug, Default, PartialEq, Eq)]
+#[derive(Clone, Copy, Default, PartialEq, Eq)]
 pub struct Mapping {
     pub number: u64,
     pub gref: u32,

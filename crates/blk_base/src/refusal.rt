@@ -1,7 +1,7 @@
 // Why a submission is refused.
 
 /// Why the front refuses a submission: the first of these that applies. Nothing changes then.
-#[derive(Clone, Copy, Debug, PartialEq, Eq)]
+#[derive(Clone, Copy, PartialEq, Eq)]
 pub enum Refusal {
     /// Number 4294967295 was given.
     Spent,

@@ -103,12 +103,6 @@ impl<const N: usize> Ord for ShortText<N> {
     }
 }
 
-impl<const N: usize> fmt::Debug for ShortText<N> {
-    fn fmt<W: fmt::Write>(&self, f: &mut fmt::Formatter<W>) -> fmt::Result {
-        fmt::Debug::fmt(&self.as_str(), f)
-    }
-}
-
 impl<const N: usize> fmt::Display for ShortText<N> {
     ghost output = { λ s. Some s };
 

@@ -2,7 +2,7 @@
 
 /// The words of a request's data that the front asks for next, one after another in one frame, up to the last
 /// word of their sector.
-#[derive(Clone, Copy, Debug, PartialEq, Eq)]
+#[derive(Clone, Copy, PartialEq, Eq)]
 pub struct SectorPart {
     /// The request's number, and which of its sectors it is, from 0 on.
     pub id: u32,

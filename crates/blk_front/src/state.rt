@@ -7,7 +7,7 @@ ghost use Rattle.blk_front.specs.View.{no_offers};
 /// `feature-flush-cache` and `feature-discard`), how many segments it takes in indirect pages, 0 where it takes none
 /// (`feature-max-indirect-segments`), and whether grants are kept, since both ends published so
 /// (`feature-persistent`).
-#[derive(Clone, Copy, Debug, PartialEq, Eq)]
+#[derive(Clone, Copy)]
 pub struct Offers {
     pub sectors: u64,
     pub read_only: bool,
@@ -36,7 +36,7 @@ impl Offers {
 }
 
 /// A state that the front enters as its negotiation with the back goes (`io/xenbus.h`).
-#[derive(Clone, Copy, Debug, PartialEq, Eq)]
+#[derive(Clone, Copy)]
 pub enum FrontState {
     /// Its ring has this order, 0 to 4, no greater than it wished: the order is agreed with the back.
     Agreed(u32),

@@ -2,7 +2,7 @@
 use blk_base::Status;
 
 /// What happened at the front in its last move.
-#[derive(Clone, Copy, Debug, PartialEq, Eq)]
+#[derive(Clone, Copy, PartialEq, Eq)]
 pub enum Told {
     /// It took the response to a request.
     Answer {

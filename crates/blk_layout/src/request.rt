@@ -4,7 +4,7 @@ use crate::segment::Segment;
 
 /// What a request with segments of its own asks for (`BLKIF_OP_READ`, `_WRITE`, `_WRITE_BARRIER`
 /// and `_FLUSH_DISKCACHE` of `io/blkif.h`).
-#[derive(Clone, Copy, Debug, PartialEq, Eq)]
+#[derive(Clone, Copy)]
 pub enum DirectOp {
     Read,
     Write,
@@ -13,7 +13,7 @@ pub enum DirectOp {
 }
 
 /// What a request with segments in other frames asks for.
-#[derive(Clone, Copy, Debug, PartialEq, Eq)]
+#[derive(Clone, Copy)]
 pub enum IndirectOp {
     Read,
     Write,
@@ -21,7 +21,7 @@ pub enum IndirectOp {
 
 /// A request as a front writes it (`io/blkif.h`), one variant for each form of an entry. `device`
 /// is the header's `handle`, `sector` the first sector on the disk, `id` the front's own number.
-#[derive(Clone, Copy, Debug, PartialEq, Eq)]
+#[derive(Clone, Copy)]
 pub enum WrittenRequest {
     /// `struct blkif_request`: the first `count` of the segments are meant; all are written.
     Direct {
@@ -53,7 +53,7 @@ pub enum WrittenRequest {
 
 /// What any words of an entry are read as. Nothing is refused: a byte that names no operation is
 /// read as the `op` of the direct form, and a count may be above what the entry has room for.
-#[derive(Clone, Copy, Debug, PartialEq, Eq)]
+#[derive(Clone, Copy, PartialEq, Eq)]
 pub enum RawRequest {
     /// Any operation byte but 5 (DISCARD) and 6 (INDIRECT).
     Direct {

@@ -205,7 +205,7 @@ fn refuse(rt: &impl Abort, alloc: Global, cases: &[Asked]) {
         let submission = read_submission(rt, text);
         let disk = submitted(rt, alloc, *count, &submission);
         let found = seen(rt, lines).refusal(disk.requests(), &submission);
-        assert_eq!(rt; found, *wanted, "{text} after {lines} and {count}");
+        assert!(rt; found == *wanted, "{text} after {lines} and {count}");
     }
 }
 

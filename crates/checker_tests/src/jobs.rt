@@ -9,7 +9,7 @@ use std::alloc::Global;
 use std::process::Abort;
 
 // The rules on jobs, in the order in which they are asked.
-#[derive(Clone, Copy, Debug, PartialEq, Eq)]
+#[derive(Clone, Copy, PartialEq, Eq)]
 enum Rule {
     Step,
     Effect,
@@ -61,7 +61,7 @@ impl Reader {
 
     // Takes in a line that breaks no rule.
     fn keep(&mut self, rt: &impl Abort, line: &Line) {
-        assert_eq!(rt; self.broken_by(line), None, "{line:?}");
+        assert!(rt; self.broken_by(line) == None, "a line that breaks no rule");
         self.jobs.see(&self.ring, line).expect(rt, "memory");
         self.ring.see(line).expect(rt, "memory");
     }
@@ -171,7 +171,7 @@ fn follow(rt: &impl Abort, alloc: Global, groups: &[Group]) {
         for (lines, next, broken) in *cases {
             let reader = reader_after(rt, alloc, pieces, lines);
             let found = reader.broken_by(&line_of(rt, next));
-            assert_eq!(rt; found, *broken, "{name}: {next} after {lines}");
+            assert!(rt; found == *broken, "{name}: {next} after {lines}");
         }
     }
 }

@@ -12,7 +12,7 @@ use std::alloc::AllocError;
 pub type ErrorLine = ArrayString<96>;
 
 /// Why the status of the program isn't 0.
-#[derive(Clone, Copy, Debug, PartialEq, Eq)]
+#[derive(Clone, Copy)]
 pub enum Stop {
     /// A line of the report breaks a rule. The output says which, and the error output nothing.
     Broken,

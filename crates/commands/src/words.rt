@@ -13,7 +13,7 @@ use schedule_text::Detail;
 use std::alloc::{AllocError, Global};
 
 /// What the program is told to do.
-#[derive(Clone, Copy, Debug, PartialEq, Eq)]
+#[derive(Clone, Copy, PartialEq, Eq)]
 pub enum Command<'a> {
     /// Show a ring of that layout and of `2^order` pages (0 to 4) as text.
     Inspect { abi: Abi, order: u32 },
@@ -27,7 +27,7 @@ pub enum Command<'a> {
 }
 
 /// What a run is told besides its image's name.
-#[derive(Clone, Copy, Debug, PartialEq, Eq)]
+#[derive(Clone, Copy, PartialEq, Eq)]
 pub struct RunOptions {
     /// Whether the report has each move.
     pub detail: Detail,

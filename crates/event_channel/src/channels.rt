@@ -9,7 +9,7 @@ use std::fmt;
 use std::marker::Model;
 
 /// A port of the front, from 1; a number is never given again.
-#[derive(Clone, Copy, Debug, PartialEq, Eq)]
+#[derive(Clone, Copy, PartialEq, Eq)]
 pub struct Port(pub u32);
 
 /// The port is not one that waits to be bound.

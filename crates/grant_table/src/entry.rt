@@ -33,7 +33,7 @@ const OTHER_FLAGS: u32 = 0xffe0;
 const DOMID_SHIFT: u32 = 16;
 
 /// Why a map is refused (`GNTST_*` of `grant_table.h`).
-#[derive(Clone, Copy, Debug, PartialEq, Eq)]
+#[derive(Clone, Copy, PartialEq, Eq)]
 pub enum MapRefusal {
     /// The entry doesn't grant this frame in this mode (`GNTST_general_error`).
     General,

@@ -19,7 +19,7 @@ pub struct ListedCalls {
 }
 
 /// How many calls of each kind were made.
-#[derive(Clone, Copy, Debug, PartialEq, Eq)]
+#[derive(Clone, Copy, PartialEq, Eq)]
 pub struct CallCounts {
     pub attaches: u64,
     pub reads: u64,

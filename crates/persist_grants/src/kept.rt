@@ -12,7 +12,7 @@ use std::marker::Model;
 const CAPACITY: usize = 1000;
 
 /// What `Kept::put_back` did with a mapping.
-#[derive(Clone, Copy, Debug, PartialEq, Eq)]
+#[derive(Clone, Copy, PartialEq, Eq)]
 pub enum PutBack {
     /// It is kept, and nothing has to be unmapped.
     Kept,

@@ -17,7 +17,7 @@ const PIECE: usize = 16384;
 const LONGEST: usize = 1152;
 
 /// Why no line is ahead.
-#[derive(Clone, Copy, Debug, PartialEq, Eq)]
+#[derive(Clone, Copy, PartialEq, Eq)]
 pub enum ReadStop {
     /// The bytes ahead are no line, however they go on.
     BadLine,

@@ -7,7 +7,7 @@ use schedule_text::Line;
 
 /// A mapping that stands: its number, the grant reference that was mapped, the mode, and the frame
 /// that it was given.
-#[derive(Clone, Copy, Debug, PartialEq, Eq)]
+#[derive(Clone, Copy, PartialEq, Eq)]
 pub struct Standing {
     pub number: u64,
     pub gref: u32,

@@ -13,7 +13,7 @@ use segment_list::{DiskInfo, Kind, Plan, Verdict, check, finish_indirect};
 use std::alloc::Global;
 
 /// One part of a request's work.
-#[derive(Clone, Copy, Debug, PartialEq, Eq)]
+#[derive(Clone, Copy, PartialEq, Eq)]
 pub enum Task {
     /// A page of an indirect request is mapped for reading, and so many of its words are read, from
     /// word 0 on.

@@ -6,7 +6,7 @@ use resume_shadow::{Numbered, Shadow};
 use std::test::Fail;
 
 // A request of a number, with what is asked.
-#[derive(Debug, PartialEq, Eq, Drop)]
+#[derive(PartialEq, Eq, Drop)]
 struct Asked {
     number: u32,
     sector: u64,

@@ -11,7 +11,7 @@ use std::marker::Model;
 /// The back's own indices of a ring (`struct blkif_back_ring` of `io/ring.h`): its producer of
 /// responses, `rsp_prod_pvt`, and its consumer of requests, `req_cons`. Between them are never more
 /// requests than the ring has entries.
-#[derive(Clone, Copy, Debug)]
+#[derive(Clone, Copy)]
 pub struct BackRing {
     entries: u32,
     prod: u32,

@@ -11,7 +11,7 @@ use std::marker::Model;
 /// The front's own indices of a ring (`struct blkif_front_ring` of `io/ring.h`): its producer of
 /// requests, `req_prod_pvt`, and its consumer of responses, `rsp_cons`. Between them are never more
 /// requests than the ring has entries.
-#[derive(Clone, Copy, Debug)]
+#[derive(Clone, Copy)]
 pub struct FrontRing {
     entries: u32,
     prod: u32,

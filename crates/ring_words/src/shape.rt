@@ -16,7 +16,7 @@ const INDEX_WORDS: u32 = 16;
 
 /// The shape of a ring of `2^order` pages under a layout of entries. Contracts see its layout and
 /// its order.
-#[derive(Clone, Copy, Debug)]
+#[derive(Clone, Copy)]
 pub struct RingShape {
     abi: Abi,
     order: u32,

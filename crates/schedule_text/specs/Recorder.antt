@@ -88,6 +88,9 @@ pub record RecorderSeen : Type 0 where
   pub kept_back : ℕ
   pub lender : Option GName
 
+abbrev pub detail_of : RecorderSeen → Detail
+detail_of seen = seen.detail
+
 -- it took these lines
 pub record Gained (more : List Line) (a b : RecorderSeen) : Type 0 where
   pub told : b.told ≡ gained a.told (kept_of a.detail more)

@@ -2,7 +2,7 @@
 use blk_base::{End, KeyName, Submission, Text};
 
 /// One line of a schedule.
-#[derive(Clone, Copy, Debug, PartialEq, Eq)]
+#[derive(Clone, Copy, PartialEq, Eq)]
 pub enum Event {
     /// A request is handed to the front.
     Submit(Submission),

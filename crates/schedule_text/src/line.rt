@@ -2,7 +2,7 @@
 use blk_base::{Config, Halt, KeyName, Move, Refusal, SectorWords, Status, Submission, Text};
 
 /// Whether a report has a line for each move.
-#[derive(Clone, Copy, Debug, PartialEq, Eq)]
+#[derive(Clone, Copy, PartialEq, Eq)]
 pub enum Detail {
     /// The word `lines`: it hasn't.
     Lines,
@@ -12,7 +12,7 @@ pub enum Detail {
 
 /// One line of a report. Requests have the number of their submission, sectors of a request count
 /// from 0, frames and words are those of the guest's memory.
-#[derive(Clone, Copy, Debug, PartialEq, Eq)]
+#[derive(Clone, Copy, PartialEq, Eq)]
 pub enum Line {
     /// The options of the run, and whether moves are shown.
     Begin {

@@ -1,9 +1,9 @@
 // Who keeps a report's lines.
 ghost use Rattle.std.specs.Prelude.{◌≡◌, ◌∷◌, [], IfSome, is_some};
 ghost use Rattle.blk_base.specs.Access.{move_of, is_access};
-ghost use Rattle.schedule_text.specs.Recorder.{Adds, HandsOnLines};
+ghost use Rattle.schedule_text.specs.Recorder.{Adds, HandsOnLines, detail_of};
 
-use crate::line::Line;
+use crate::line::{Detail, Line};
 use blk_base::{Access, Move};
 use blk_io::Failed;
 
@@ -17,7 +17,7 @@ pub enum RecordStop {
 }
 
 /// How a schedule's rounds ended.
-#[derive(Clone, Copy, Debug, PartialEq, Eq)]
+#[derive(Clone, Copy, PartialEq, Eq)]
 pub enum RoundsEnd {
     Quiet,
     Unsettled,
@@ -25,7 +25,7 @@ pub enum RoundsEnd {
 
 /// How many lines of four kinds there were, each count stopping at 18446744073709551615, and the
 /// last word of `quiet` and `unsettled`.
-#[derive(Clone, Copy, Debug, PartialEq, Eq)]
+#[derive(Clone, Copy, PartialEq, Eq)]
 pub struct Tally {
     pub submitted: u64,
     pub refused: u64,
@@ -66,6 +66,10 @@ pub trait Recorder {
     /// it failed; what a sink under it keeps back; and the reference to a sink that it was lent, which
     /// stays the same, so that what the recorder tells in the end is what its sink then holds.
     ghost seen: { Self → RecorderSeen };
+
+    /// Which lines it keeps. One that keeps no lines of moves tells nothing of them.
+    fn detail(&self) -> Detail
+        ensures { result ≡ detail_of (seen self.now) };
 
     /// Adds a line. A `begin` line says this recorder's word, whichever word it has here.
     fn add(&mut self, line: &Line) -> Result<(), RecordStop>

@@ -42,6 +42,11 @@ impl Recorder for LineList {
 
     ghost seen = { λ r. listing r.detail r.lines.items };
 
+    #[inline(always)]
+    fn detail(&self) -> Detail {
+        self.detail
+    }
+
     fn add(&mut self, line: &Line) -> Result<(), RecordStop> {
         match kept(self.detail, line) {
             Some(line) => push(&mut self.lines, line),
@@ -111,6 +116,11 @@ impl<'a, S: Sink> Recorder for LineSink<'a, S> {
     ghost use Rattle.schedule_text.specs.Recorders.{writing};
 
     ghost seen = { λ r. writing r.detail r.sink.ghost_name (S.seen r.sink.now) };
+
+    #[inline(always)]
+    fn detail(&self) -> Detail {
+        self.detail
+    }
 
     fn add(&mut self, line: &Line) -> Result<(), RecordStop>
         ensures added { Adds (line.now ∷ []) result
@@ -238,7 +248,7 @@ fn write_begin<S: Sink>(
 }
 
 /// A recorder that counts the lines of requests and keeps nothing else. It never fails.
-#[derive(Clone, Copy, Debug)]
+#[derive(Clone, Copy)]
 pub struct LineTally {
     pub tally: Tally,
 }
@@ -264,6 +274,11 @@ impl Recorder for LineTally {
     ghost use Rattle.schedule_text.specs.Recorders.{counting};
 
     ghost seen = { λ r. counting r.tally };
+
+    #[inline(always)]
+    fn detail(&self) -> Detail {
+        Detail::Lines
+    }
 
     fn add(&mut self, line: &Line) -> Result<(), RecordStop> {
         self.tally.count(line);

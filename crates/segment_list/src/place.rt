@@ -9,7 +9,7 @@ use blk_layout::Segment;
 use std::marker::Model;
 
 /// Where one sector of a request lies.
-#[derive(Clone, Copy, Debug, PartialEq, Eq)]
+#[derive(Clone, Copy, PartialEq, Eq)]
 pub struct Place {
     /// The sector on the disk.
     pub disk: u64,

@@ -15,7 +15,7 @@ const MAX_SEGMENTS: u8 = 11;
 
 /// The disk as the back knows it: its size in sectors of 512 bytes, whether it may be written, and what the back has
 /// published of barriers, flushes and discards. An indirect request may have `max_indirect` segments; 0 is none at all.
-#[derive(Clone, Copy, Debug, PartialEq, Eq)]
+#[derive(Clone, Copy, PartialEq, Eq)]
 pub struct DiskInfo {
     pub sectors: u64,
     pub read_only: bool,
@@ -26,7 +26,7 @@ pub struct DiskInfo {
 }
 
 /// Why a request ends with an error before anything is done.
-#[derive(Clone, Copy, Debug, PartialEq, Eq)]
+#[derive(Clone, Copy, PartialEq, Eq)]
 pub enum Why {
     /// It writes, and the disk is read-only.
     ReadOnly,
@@ -41,7 +41,7 @@ pub enum Why {
 }
 
 /// What a served request does.
-#[derive(Clone, Copy, Debug, PartialEq, Eq)]
+#[derive(Clone, Copy, PartialEq, Eq)]
 pub enum Kind {
     Read,
     Write,
@@ -54,7 +54,7 @@ pub enum Kind {
 
 /// A request that is served: what it does, from which disk sector on, with how many segments. They stay in the entry,
 /// or for an indirect request in its pages. A flush has none, and for a discard it is the number of sectors.
-#[derive(Clone, Copy, Debug, PartialEq, Eq)]
+#[derive(Clone, Copy, PartialEq, Eq)]
 pub struct Plan {
     pub kind: Kind,
     pub sector: u64,
@@ -62,7 +62,7 @@ pub struct Plan {
 }
 
 /// What becomes of a request: it is served by a plan, or its response is ERROR or EOPNOTSUPP at once.
-#[derive(Clone, Copy, Debug, PartialEq, Eq)]
+#[derive(Clone, Copy, PartialEq, Eq)]
 pub enum Verdict {
     Serve(Plan),
     Error(Why),

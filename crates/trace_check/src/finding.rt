@@ -11,7 +11,7 @@ use schedule_text::Line;
 use std::alloc::Global;
 
 /// What a check finds.
-#[derive(Clone, Copy, Debug, PartialEq, Eq)]
+#[derive(Clone, Copy, PartialEq, Eq)]
 pub enum Finding {
     /// Each line keeps all rules, and the last is `end`.
     Legal,
@@ -21,7 +21,7 @@ pub enum Finding {
 }
 
 /// Why a check finds nothing.
-#[derive(Clone, Copy, Debug, PartialEq, Eq)]
+#[derive(Clone, Copy, PartialEq, Eq)]
 pub enum CheckStop {
     /// This line, from 1, is no line of a report, or lacks its line feed.
     BadLine(u64),

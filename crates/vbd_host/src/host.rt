@@ -7,11 +7,11 @@ use blk_back::BackTold;
 use blk_base::{BackAnswer, BackAsk, Mapping, Mode, Path, SectorWords, Text};
 
 /// A port wasn't bound.
-#[derive(Clone, Copy, Debug, PartialEq, Eq)]
+#[derive(Clone, Copy, PartialEq, Eq)]
 pub struct BindRefused;
 
 /// A call of the disk failed.
-#[derive(Clone, Copy, Debug, PartialEq, Eq)]
+#[derive(Clone, Copy, PartialEq, Eq)]
 pub struct DiskFailed;
 
 /// What a host does for a back and its jobs, each method one thing that they ask. Words are numbers below 1024 of a

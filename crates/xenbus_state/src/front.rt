@@ -46,7 +46,7 @@ pub enum FrontBusAsk {
 }
 
 /// What the front tells of itself after an answer.
-#[derive(Clone, Copy, Debug, PartialEq, Eq)]
+#[derive(Clone, Copy, PartialEq, Eq)]
 pub enum FrontNews {
     /// Connected was written.
     Ready,
@@ -246,7 +246,7 @@ impl FrontBus {
         ensures value { result ≡ due self.now idle }
         ensures sound { IsSound (record self.now { stage = result }) }
     {
-        if self.stage != FrontBusStage::Rest || !self.closing || !idle {
+        if !matches!(self.stage, FrontBusStage::Rest) || !self.closing || !idle {
             return self.stage;
         }
         if self.state != BusState::Closing {

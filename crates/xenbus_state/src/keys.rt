@@ -10,7 +10,7 @@ use itoa::Buffer;
 use key_directory::directory_of;
 
 /// A key that the front sets, its state aside (`io/blkif.h`, "Frontend XenBus Nodes").
-#[derive(Clone, Copy, Debug, PartialEq, Eq)]
+#[derive(Clone, Copy, PartialEq, Eq)]
 pub enum FrontKey {
     RingPageOrder,
     /// The grant reference of the only page of the ring.
@@ -23,7 +23,7 @@ pub enum FrontKey {
 }
 
 /// A key that the back sets, its state aside (`io/blkif.h`, "Backend XenBus Nodes").
-#[derive(Clone, Copy, Debug, PartialEq, Eq)]
+#[derive(Clone, Copy)]
 pub enum BackKey {
     FeatureBarrier,
     FeatureFlushCache,

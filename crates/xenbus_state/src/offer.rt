@@ -10,7 +10,7 @@ const MAX_ORDER: u32 = 4;
 /// What a back offers (`feature-*` and `max-ring-page-order` of `io/blkif.h`). A back publishes it,
 /// and a front has what it read: a feature is there where its key isn't 0, persistent grants where
 /// it is 1.
-#[derive(Clone, Copy, Debug, Default, PartialEq, Eq)]
+#[derive(Clone, Copy, Default, PartialEq, Eq)]
 pub struct Features {
     pub barrier: bool,
     pub flush: bool,
@@ -24,7 +24,7 @@ pub struct Features {
 
 /// What the disk is (`sectors` and `info` of `io/blkif.h`): its number of 512-byte sectors, and
 /// whether it is read-only (`VDISK_READONLY`).
-#[derive(Clone, Copy, Debug, Default, PartialEq, Eq)]
+#[derive(Clone, Copy, Default, PartialEq, Eq)]
 pub struct DiskFacts {
     pub sectors: u64,
     pub read_only: bool,

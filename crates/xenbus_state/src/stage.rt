@@ -3,7 +3,7 @@ use crate::keys::{BackKey, FrontKey};
 use crate::state::BusState;
 
 /// What the front is doing. Each has exactly one thing to ask next.
-#[derive(Clone, Copy, Debug, PartialEq, Eq)]
+#[derive(Clone, Copy)]
 pub enum FrontBusStage {
     /// Sets its watch on the back's state.
     Start,

@@ -7,7 +7,7 @@ use crate::values::KeyValue;
 use blk_base::{Lent, Text};
 
 /// What an end's key `state` says (`enum xenbus_state` of `io/xenbus.h`).
-#[derive(Clone, Copy, Debug, PartialEq, Eq)]
+#[derive(Clone, Copy, PartialEq, Eq)]
 pub enum BusState {
     Unknown,
     Initialising,

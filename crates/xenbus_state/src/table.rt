@@ -6,7 +6,7 @@ use crate::keys::FrontKey;
 use crate::state::BusState;
 
 /// What the front does on reading the back's state.
-#[derive(Clone, Copy, Debug, PartialEq, Eq)]
+#[derive(Clone, Copy, PartialEq, Eq)]
 pub enum FrontAction {
     Nothing,
     /// Reads the back's features, makes the ring, publishes it, and is Initialised.
@@ -24,7 +24,7 @@ pub enum FrontAction {
 }
 
 /// Why the back halts by what it reads of the front. States are the front's.
-#[derive(Clone, Copy, Debug, PartialEq, Eq)]
+#[derive(Clone, Copy, PartialEq, Eq)]
 pub enum BackHalt {
     /// The front is gone.
     Gone(BusState),
@@ -43,7 +43,7 @@ pub enum BackHalt {
 }
 
 /// What the back does on reading the front's state.
-#[derive(Clone, Copy, Debug, PartialEq, Eq)]
+#[derive(Clone, Copy, PartialEq, Eq)]
 pub enum BackAction {
     Nothing,
     /// Reads the front's keys, maps the ring, binds the port, and is Connected.

@@ -26,7 +26,7 @@ pub enum KeyValue {
 
 /// What a front has to say to its back: the layout of entries, the order of the ring (it has
 /// `2^order` pages), whether it keeps grants, and its event port.
-#[derive(Clone, Copy, Debug, PartialEq, Eq)]
+#[derive(Clone, Copy, PartialEq, Eq)]
 pub struct FrontTerms {
     pub abi: Abi,
     pub order: u32,

@@ -22,7 +22,7 @@ pub fn words(rt: &impl Abort, alloc: Global, line: &str) -> Vec<String> {
 pub fn asks(rt: &impl Abort, alloc: Global, line: &str, wanted: Option<Command>) {
     let words = words(rt, alloc, line);
     let found = read_command(alloc, words.as_slice()).expect(rt, "memory");
-    assert_eq!(rt; found, wanted, "{line}");
+    assert!(rt; found == wanted, "{line}");
 }
 
 /// The words of no line ask for anything.

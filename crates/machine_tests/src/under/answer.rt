@@ -2,7 +2,7 @@
 use blk_base::{BackAnswer, FrontAnswer, Lent, Path, Text};
 
 /// What an ask is completed by, with its texts.
-#[derive(Clone, Copy, Debug, PartialEq)]
+#[derive(Clone, Copy, PartialEq)]
 pub enum Answer {
     Nothing,
     Done,

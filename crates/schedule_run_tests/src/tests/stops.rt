@@ -45,7 +45,7 @@ fn left(rt: &impl Abort, alloc: Global, case: &Stop) -> (Result<(), RunStop>, us
 fn all_stop(rt: &impl Abort, alloc: Global, cases: &[Stop]) {
     for case in cases {
         let wanted = (Err(case.stop), case.lines, true);
-        assert_eq!(rt; left(rt, alloc, case), wanted, "{}", case.name);
+        assert!(rt; left(rt, alloc, case) == wanted, "{}", case.name);
     }
 }
 
