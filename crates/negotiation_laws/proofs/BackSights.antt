@@ -62,16 +62,14 @@ only_reads true v = record { same = refl; stage = tt }
 only_reads false v = record { same = refl; stage = tt }
 
 key_reads : (k : FrontKey) (text : Option (List ℕ)) (v : BackView) → ReadsOn v (kept_or_halted (reading.key_read k text v) v)
-key_reads key.RingPageOrder None v = record { same = refl; stage = tt }
 key_reads key.RingPageOrder (Some text) v = read_or_halted (with_order v (key.RingRefOf 0)) (order_of (number_of text)) v (λ x. record { same = refl; stage = tt })
 key_reads (key.RingRefOf page) None v = only_reads (v.terms.order == 0) v
 key_reads (key.RingRefOf page) (Some text) v = read_or_halted (with_gref v (after_page v.terms.order page)) (number_of text) v (λ x. record { same = refl; stage = tt })
-key_reads key.RingRef None v = record { same = refl; stage = tt }
 key_reads key.RingRef (Some text) v = read_or_halted (with_gref v key.EventChannel) (number_of text) v (λ x. record { same = refl; stage = tt })
-key_reads key.EventChannel None v = record { same = refl; stage = tt }
 key_reads key.EventChannel (Some text) v = read_or_halted (with_port v) (number_of text) v (λ x. record { same = refl; stage = tt })
 key_reads key.Protocol text v = read_or_halted (with_layout v) (layout_read text) v (λ x. record { same = refl; stage = tt })
 key_reads key.FeaturePersistent text v = read_or_halted (with_persistent v) (count_read text) v (λ x. record { same = refl; stage = tt })
+key_reads other None v = record { same = refl; stage = tt }
 
 module _ (fs : BusState) where
   key_stage_sees : (s : BackBusStage) (own : BusState) (w : Watches) → IsKeyStage s → Sees front_state w (IsReady fs) → BackSees s own fs w
@@ -159,8 +157,7 @@ module _ (fs : BusState) where
 -- which state the back has written after a move
 acted_state : (act : BackAction) (v : BackView) → (acted act v).state ≡ v.state
 acted_state action.Nothing v = refl
-acted_state action.Connect v = refl
-acted_state (action.Halt reason) v = refl
+acted_state other v = refl
 
 woken_state : (s : BackBusStage) (o : Option (List ℕ)) (v : BackView) → (step_at s (at s v) (back_woken o)).state ≡ v.state
 woken_state stage.Rest None v = refl
@@ -179,16 +176,9 @@ unmap_state (first ∷ pages) v page d = refl
 
 pub back_state_at : (s : BackBusStage) (v : BackView) (page : Mapping) (d : Directory)
     → (step_at s (at s v) (back_answered (ask_at s v) page d)).state ≡ back_own (ask_at s v) v.state
-back_state_at (stage.Publish k) v page d = refl
-back_state_at (stage.WriteState s) v page d = refl
-back_state_at stage.Watch v page d = refl
 back_state_at stage.Rest v page d = woken_state stage.Rest (next_watch d.back) v
 back_state_at stage.ReadState v page d = acted_state (back_action v.state v.unplugged (state_read (key_of d.keys front_state))) (at stage.ReadState v)
 back_state_at (stage.ReadKey k) v page d = (key_reads k (key_of d.keys (front_path k)) (at (stage.ReadKey k) v)).same
-back_state_at stage.MapPage v page d = refl
-back_state_at stage.Bind v page d = refl
-back_state_at (stage.PublishFact k) v page d = refl
-back_state_at stage.UnmapOthers v page d = refl
 back_state_at stage.UnmapPage v page d = unmap_state v.pages v page d
-back_state_at stage.ClosePort v page d = refl
 back_state_at stage.Halted v page d = woken_state stage.Halted (next_watch d.back) v
+back_state_at other v page d = refl

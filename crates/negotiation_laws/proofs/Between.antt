@@ -92,11 +92,9 @@ back_ask_seen a d s closing own gone b h = h
 pub front_own_rises : (a : FrontBusAsk) (own : BusState) → front_sound.Rises own a → state_number own ≤ state_number (own_after a own)
 unfolding own_after
 front_own_rises (front_ask.SetState s) own h = omega arith
-front_own_rises front_ask.Wait own h = omega arith
 front_own_rises a own h = omega arith
 
 -- so the back's
 pub back_own_rises : (a : BackBusAsk) (own : BusState) → back_sound.Rises own a → state_number own ≤ state_number (back_own a own)
 back_own_rises (back_ask.SetState s) own h = omega arith
-back_own_rises back_ask.Wait own h = omega arith
 back_own_rises a own h = omega arith

@@ -1,5 +1,5 @@
 -- A front with unfinished requests negotiates on until it is connected, also where it is closing.
-use Rattle.std.proofs.Common.{◌≡◌, ap, sym, subst, ℕ, ◌+◌, ◌≤◌, ◌==◌, ◌&&◌, ◌||◌, nat_lt, Bool, true, false, List, [], ◌∷◌, refl, arith, if◌then◌else◌, ◌⊎◌, inl, inr}
+use Rattle.std.proofs.Common.{◌≡◌, ap, sym, subst, ℕ, ◌+◌, ◌≤◌, ◌==◌, ◌&&◌, nat_lt, Bool, true, false, List, [], ◌∷◌, refl, arith, if◌then◌else◌, ◌⊎◌, inl, inr}
 use Rattle.std.specs.Prelude.{Option, None, Some}
 use Rattle.blk_base.specs.declared.parts.Mapping.{Mapping}
 use Rattle.key_directory.specs.Directory.{Directory, key_of}
@@ -21,11 +21,11 @@ use Rattle.xenbus_state.specs.declared.table.FrontAction.TheVariants as action
 use Rattle.xenbus_state.specs.declared.front.FrontBusAsk.{FrontBusAsk}
 use Rattle.xenbus_state.specs.declared.back.BackBusAsk.{BackBusAsk}
 use Rattle.xenbus_state.specs.declared.back.BackBusAsk.TheVariants as back_ask
-use Rattle.xenbus_state.specs.FrontView.{FrontView, ring_order, pages_of, closed, is_broken}
+use Rattle.xenbus_state.specs.FrontView.{FrontView, ring_order, pages_of, closed}
 use Rattle.xenbus_state.specs.FrontAsk.{due_at, closing_stage, ask_at}
 use Rattle.xenbus_state.specs.FrontStep.{at, step_at, acted, feature_step, after_feature, fact_step, after_fact, written, after_published, after_grants}
 use Rattle.xenbus_state.specs.FrontSound.{IsTimely}
-use Rattle.xenbus_state.specs.BackView.{is_halting, unplugged}
+use Rattle.xenbus_state.specs.BackView.{BackView, unplugged}
 use Rattle.xenbus_state.specs.BackAsk as back_asks
 use Rattle.xenbus_state.specs.BackStep as back_step
 use Rattle.negotiation_laws.specs.Negotiation.{Negotiation, start_of, back_path, front_state, back_state, state_text, front_woken, front_answered, front_done, front_moved, back_answered, back_done, back_moved}
@@ -33,6 +33,7 @@ use Rattle.negotiation_laws.specs.Happening.{Happening, FrontMoves, BackMoves, F
 use Rattle.negotiation_laws.specs.Within.{HavePorts}
 use Rattle.negotiation_laws.specs.Run.{now, begins}
 use Rattle.negotiation_laws.specs.Laws.{IsAtRest, IsBusy, AreBusy, BusyFrontsConnect}
+use Rattle.negotiation_laws.proofs.Choices.{closed_cases, unplugged_cases}
 use Rattle.negotiation_laws.proofs.Shown.{state_shown}
 use Rattle.negotiation_laws.proofs.Watching.{sees_so, sees_kept, sees_fired, back_key_apart}
 use Rattle.negotiation_laws.proofs.Between.{back_own}
@@ -126,12 +127,9 @@ module _ (b : BusState) where
 
   acted_hears : (act : FrontAction) (v : FrontView) (w : Watches) → RestsAt act v.state b → Sees back_state w (Unit {0}) → Hears (acted act (at stage.ReadState v)) w
   acted_hears action.Nothing v w rests h = rest_sees v.state b w (sees_so back_state w (Unit {0}) (Awaits v.state b) (λ u. rests) h)
-  acted_hears action.Publish v w rests h = tt
-  acted_hears action.Connect v w rests h = tt
   acted_hears action.Close v w rests h = rest_sees v.state b w (sees_so back_state w (Unit {0}) (Awaits v.state b) (λ u. rests) h)
-  acted_hears action.CloseAndConnect v w rests h = tt
   acted_hears action.Leave v w rests h = rest_sees v.state b w (sees_so back_state w (Unit {0}) (Awaits v.state b) (λ u. rests) h)
-  acted_hears (action.Break word) v w rests h = tt
+  acted_hears other v w rests h = tt
 
   state_hears : (v : FrontView) (o : Option (List ℕ)) (w : Watches) → o ≡ Some (state_text b) → RestsAt (front_action v.state v.closing false (Some b)) v.state b → Sees back_state w (Unit {0})
       → Hears (acted (front_action v.state v.closing false (state_read o)) (at stage.ReadState v)) w
@@ -200,15 +198,14 @@ module _ (b : BusState) where
   hears_at (stage.ReadFeature k) v port d shown rests writes sees h = feature_hears k (count_read (key_of d.keys (back_path k))) (at (stage.ReadFeature k) v) d.front
   hears_at (stage.RingWord word) v port d shown rests writes sees h = either_hears (word == 15) (stage.Grant 0) (stage.RingWord (word + 1)) v.state d.front tt tt
   hears_at (stage.Grant page) v port d shown rests writes sees h = either_hears (nat_lt (page + 1) (pages_of v)) (stage.Grant (page + 1)) stage.NewPort v.state d.front tt tt
-  hears_at stage.NewPort v port d shown rests writes sees h = tt
   hears_at (stage.Publish k) v port d shown rests writes sees h = publish_hears (next_published (ring_order v) k) v.state _
   hears_at (stage.ReadFact k) v port d shown rests writes sees h = fact_hears k (fact_read k (key_of d.keys (back_path k))) (at (stage.ReadFact k) v) d.front
   hears_at (stage.WriteState s) v port d shown rests writes sees h = written_hears s v d.front writes sees
   hears_at (stage.EndGrant page) v port d shown rests writes sees h = either_hears (nat_lt (page + 1) (pages_of v)) (stage.EndGrant (page + 1)) stage.EndOtherGrants v.state d.front tt tt
   hears_at stage.EndOtherGrants v port d shown rests writes sees h = others_hear v.port v.state d.front
-  hears_at stage.ClosePort v port d shown rests writes sees h = tt
   hears_at stage.Closed v port d shown rests writes sees h = closed_hears (next_watch d.front) v _
   hears_at (stage.Broken word) v port d shown rests writes sees h = broken_hears word (next_watch d.front) v _
+  hears_at other v port d shown rests writes sees h = tt
 
 -- a move of the back leaves the front's watch, or fires it
 back_leaves : (a : BackBusAsk) (d : Directory) (b s : BusState) → Sees back_state d.front (b ≡ s) → Sees back_state (back_done a d).front (back_own a b ≡ s)
@@ -253,18 +250,10 @@ module _ (f : Features) (d : DiskFacts) (n : Negotiation) where
       shows = back_shows f d n h
 
   close_heard : IsHeard n → IsHeard (record n { front = closed n.front })
-  close_heard known = by_test (n.front.closing || is_broken n.front.stage)
-    where
-      by_test : (already : Bool) → let w = (if already then n.front else record n.front { closing = true }) in HeardAt w.stage w.state n.back.state n.keys.front
-      by_test true = known
-      by_test false = known
+  close_heard known = closed_cases (λ (v : FrontView). IsHeard (record n { front = v })) n.front known known
 
   unplug_heard : IsHeard n → IsHeard (record n { back = unplugged n.back })
-  unplug_heard known = by_test (is_halting n.back.stage)
-    where
-      by_test : (halts : Bool) → let w = (if halts then n.back else record n.back { unplugged = true }) in HeardAt n.front.stage n.front.state w.state n.keys.front
-      by_test true = known
-      by_test false = known
+  unplug_heard known = unplugged_cases (λ (v : BackView). IsHeard (record n { back = v })) n.back known known
 
   -- whatever happens
   pub heard_happens : (h : Happening) → IsBusy h → Holds f d n → IsHeard n → IsHeard (happened h n)

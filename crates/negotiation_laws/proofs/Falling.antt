@@ -91,12 +91,8 @@ page_falls page false v low = record { less = omega arith; rests = refl }
 
 publish_falls : (k : FrontKey) (v : FrontView) → IsLow (front.Publish k)
     → Falls (front.Publish k) v.state (front_step.at (front_step.after_published (next_published (ring_order v) k)) v)
-publish_falls key.RingPageOrder v low = record { less = omega arith; rests = refl }
 publish_falls (key.RingRefOf page) v low = page_falls page (nat_lt (page + 1) (2 ^ ring_order v)) v low
-publish_falls key.RingRef v low = record { less = omega arith; rests = refl }
-publish_falls key.EventChannel v low = record { less = omega arith; rests = refl }
-publish_falls key.Protocol v low = record { less = omega arith; rests = refl }
-publish_falls key.FeaturePersistent v low = record { less = omega arith; rests = refl }
+publish_falls other v low = record { less = omega arith; rests = refl }
 
 written_falls : (s : BusState) (v : FrontView) → IsFrontWrite (front.WriteState s)
     → Falls (front.WriteState s) v.state (front_step.written s (front_step.at (front.WriteState s) v))
@@ -256,30 +252,11 @@ front_fires (front_ask.SetKey k value) d s closing fs gone b q no_wait f g =
     omega arith
 front_fires a d s closing fs gone b q no_wait f g = omega arith
 
--- the front waits
-rest_sum : (v : FrontView) (idle : Bool) (w : Watches) (A : Type 0) → Sees back_state w A
-    → let u = front_step.step_at front.Rest (front_step.at front.Rest v) idle (front_woken (next_watch w)) in
-    one_if (has_pending w) + (3 * front_left u.stage u.state + front_reading u.stage + 2 * length (taken w).pending) ≤ 3 * front_rest_left v.state + 2 * length w.pending
-rest_sum v idle w A (inl e) =
-    subst (λ (x : Watches). let u = front_step.step_at front.Rest (front_step.at front.Rest v) idle (front_woken (next_watch x)) in one_if (has_pending x) + (3 * front_left u.stage u.state + front_reading u.stage + 2 * length (taken x).pending) ≤ 3 * front_rest_left v.state + 2 * length x.pending) (sym e) (omega arith)
-rest_sum v idle w A (inr (e, a)) =
-    subst (λ (x : Watches). let u = front_step.step_at front.Rest (front_step.at front.Rest v) idle (front_woken (next_watch x)) in one_if (has_pending x) + (3 * front_left u.stage u.state + front_reading u.stage + 2 * length (taken x).pending) ≤ 3 * front_rest_left v.state + 2 * length x.pending) (sym e) (omega arith)
-
-closed_sum : (v : FrontView) (idle : Bool) (w : Watches) (A : Type 0) → Sees back_state w A
-    → let u = front_step.step_at front.Closed (front_step.at front.Closed v) idle (front_woken (next_watch w)) in
-    one_if (has_pending w) + (3 * front_left u.stage u.state + front_reading u.stage + 2 * length (taken w).pending) ≤ 0 + 2 * length w.pending
-closed_sum v idle w A (inl e) =
-    subst (λ (x : Watches). let u = front_step.step_at front.Closed (front_step.at front.Closed v) idle (front_woken (next_watch x)) in one_if (has_pending x) + (3 * front_left u.stage u.state + front_reading u.stage + 2 * length (taken x).pending) ≤ 0 + 2 * length x.pending) (sym e) (omega arith)
-closed_sum v idle w A (inr (e, a)) =
-    subst (λ (x : Watches). let u = front_step.step_at front.Closed (front_step.at front.Closed v) idle (front_woken (next_watch x)) in one_if (has_pending x) + (3 * front_left u.stage u.state + front_reading u.stage + 2 * length (taken x).pending) ≤ 0 + 2 * length x.pending) (sym e) (omega arith)
-
-broken_sum : (word : ℕ) (v : FrontView) (idle : Bool) (w : Watches) (A : Type 0) → Sees back_state w A
-    → let u = front_step.step_at (front.Broken word) (front_step.at (front.Broken word) v) idle (front_woken (next_watch w)) in
-    one_if (has_pending w) + (3 * front_left u.stage u.state + front_reading u.stage + 2 * length (taken w).pending) ≤ 0 + 2 * length w.pending
-broken_sum word v idle w A (inl e) =
-    subst (λ (x : Watches). let u = front_step.step_at (front.Broken word) (front_step.at (front.Broken word) v) idle (front_woken (next_watch x)) in one_if (has_pending x) + (3 * front_left u.stage u.state + front_reading u.stage + 2 * length (taken x).pending) ≤ 0 + 2 * length x.pending) (sym e) (omega arith)
-broken_sum word v idle w A (inr (e, a)) =
-    subst (λ (x : Watches). let u = front_step.step_at (front.Broken word) (front_step.at (front.Broken word) v) idle (front_woken (next_watch x)) in one_if (has_pending x) + (3 * front_left u.stage u.state + front_reading u.stage + 2 * length (taken x).pending) ≤ 0 + 2 * length x.pending) (sym e) (omega arith)
+-- a wait takes a watch that fired, and what it leaves is then at most one more: it reads
+pub wait_falls : (after : Option (List ℕ) → ℕ) (path : List ℕ) (w : Watches) (A : Type 0) (most : ℕ) → Sees path w A → after None ≤ most → after (Some path) ≤ most + 1
+    → one_if (has_pending w) + (after (next_watch w) + 2 * length (taken w).pending) ≤ most + 2 * length w.pending
+wait_falls after path w A most (inl e) none some = rw e (omega (arith, some))
+wait_falls after path w A most (inr (e, a)) none some = rw e (omega (arith, none))
 
 -- the back's state is read
 record Reads (own : BusState) (w : FrontView) : Type 0 where
@@ -288,13 +265,10 @@ record Reads (own : BusState) (w : FrontView) : Type 0 where
 
 acted_reads : (act : FrontAction) (v : FrontView) (idle : Bool) (b : BusState) → front_acts.ActsFor act v.state v.closing v.gone idle b
     → Reads v.state (front_step.acted act (front_step.at front.ReadState v))
-acted_reads front_act.Nothing v idle b acts = record { less = omega arith; rests = refl }
 acted_reads front_act.Publish v idle b acts = record { less = rw acts.0 (omega arith); rests = refl }
 acted_reads front_act.Connect v idle b acts = record { less = rw acts.0 (omega arith); rests = refl }
-acted_reads front_act.Close v idle b acts = record { less = omega arith; rests = refl }
 acted_reads front_act.CloseAndConnect v idle b acts = record { less = rw acts.0 (omega arith); rests = refl }
-acted_reads front_act.Leave v idle b acts = record { less = omega arith; rests = refl }
-acted_reads (front_act.Break word) v idle b acts = record { less = omega arith; rests = refl }
+acted_reads other v idle b acts = record { less = omega arith; rests = refl }
 
 pub one_at_most : (b : Bool) → one_if b ≤ 1
 one_at_most true = omega arith
@@ -324,6 +298,10 @@ module _ (f : Features) (d : DiskFacts) (t : Negotiation) where
       let fires = front_fires (front_asks.ask_at s t.front) t.keys t.front.stage t.front.closing t.front.state t.front.gone t.back.state t.back.stage no_wait h.front_sees h.back_sees in
       program_sum _ _ _ _ _ (front_reading t.front.stage) _ _ _ _ other (one_at_most (front_goes (front_asks.ask_at s t.front) t.keys.front)) falls.less begun falls.rests fires
 
+  -- what is left after a wait
+  abbrev waited : FrontBusStage → (idle : Bool) → Option (List ℕ) → ℕ
+  waited s idle o = let u = front_step.step_at s (front_step.at s t.front) idle (front_woken o) in 3 * front_left u.stage u.state + front_reading u.stage
+
   -- all stages together
   Lowers : FrontBusStage → (idle : Bool) (port : ℕ) (other : ℕ) → Type 0
   Lowers s idle port other =
@@ -344,12 +322,12 @@ module _ (f : Features) (d : DiskFacts) (t : Negotiation) where
       → FrontSees s t.front.closing t.front.state t.front.gone t.back.state t.keys.front → Holds f d t → Lowers s idle port other
   unfolding Lowers
   lowers_at front.Rest idle port other low timely writes begun reading sees h =
-      wait_sum _ (3 * front_rest_left t.front.state) (3 * front_left t.front.stage t.front.state) (front_reading t.front.stage) (length t.keys.front.pending) (length t.keys.back.pending) other (one_if (has_pending t.keys.front)) (rest_sum t.front idle t.keys.front (FrontHeard front.Rest t.front.closing t.front.state t.front.gone t.back.state) sees) (omega arith)
+      wait_sum _ (3 * front_rest_left t.front.state) (3 * front_left t.front.stage t.front.state) (front_reading t.front.stage) (length t.keys.front.pending) (length t.keys.back.pending) other (one_if (has_pending t.keys.front)) (wait_falls (waited front.Rest idle) back_state t.keys.front _ (3 * front_rest_left t.front.state) sees (omega arith) (omega arith)) (omega arith)
   lowers_at front.ReadState idle port other low timely writes begun reading sees h = state_left idle port other begun reading h
   lowers_at front.Closed idle port other low timely writes begun reading sees h =
-      wait_sum _ 0 (3 * front_left t.front.stage t.front.state) (front_reading t.front.stage) (length t.keys.front.pending) (length t.keys.back.pending) other (one_if (has_pending t.keys.front)) (closed_sum t.front idle t.keys.front (Unit {0}) sees) (omega arith)
+      wait_sum _ 0 (3 * front_left t.front.stage t.front.state) (front_reading t.front.stage) (length t.keys.front.pending) (length t.keys.back.pending) other (one_if (has_pending t.keys.front)) (wait_falls (waited front.Closed idle) back_state t.keys.front _ 0 sees (omega arith) (omega arith)) (omega arith)
   lowers_at (front.Broken word) idle port other low timely writes begun reading sees h =
-      wait_sum _ 0 (3 * front_left t.front.stage t.front.state) (front_reading t.front.stage) (length t.keys.front.pending) (length t.keys.back.pending) other (one_if (has_pending t.keys.front)) (broken_sum word t.front idle t.keys.front (Unit {0}) sees) (omega arith)
+      wait_sum _ 0 (3 * front_left t.front.stage t.front.state) (front_reading t.front.stage) (length t.keys.front.pending) (length t.keys.back.pending) other (one_if (has_pending t.keys.front)) (wait_falls (waited (front.Broken word) idle) back_state t.keys.front _ 0 sees (omega arith) (omega arith)) (omega arith)
   lowers_at front.Start idle port other low timely writes begun reading sees h = program_left front.Start idle port other tt (λ w. w) low timely writes begun h
   lowers_at s idle port other low timely writes begun reading sees h = program_left s idle port other tt (λ w. w) low timely writes begun h
 

@@ -89,12 +89,8 @@ module _ (v : BackView) (n : ℕ) (port : Option ℕ) (terms : FrontTerms) (f : 
   connected_at (back.WriteState state.Connected) e placed h = absurd (unlike v.state state.InitWait state.Connected placed.0 e (omega arith))
   connected_at (back.WriteState state.Closed) e placed h = absurd (unlike v.state state.Connected state.Closing e placed.0 (omega arith))
   connected_at (back.WriteState s) e placed h = absurd placed
-  connected_at back.Watch e placed h = absurd (unlike v.state state.InitWait state.Connected placed.0 e (omega arith))
-  connected_at (back.ReadKey k) e placed h = absurd (unlike v.state state.InitWait state.Connected placed.0 e (omega arith))
-  connected_at back.MapPage e placed h = absurd (unlike v.state state.InitWait state.Connected placed.0 e (omega arith))
-  connected_at back.Bind e placed h = absurd (unlike v.state state.InitWait state.Connected placed.0 e (omega arith))
-  connected_at (back.PublishFact k) e placed h = absurd (unlike v.state state.InitWait state.Connected placed.0 e (omega arith))
   connected_at back.Halted e placed h = absurd (unlike v.state state.Connected state.Closed e placed.0 (omega arith))
+  connected_at other e placed h = absurd (unlike v.state state.InitWait state.Connected placed.0 e (omega arith))
 
 pub connected_back : (r : NegotiationRun) → (now r).back.state ≡ state.Connected
     → IsConnected (now r).back (state_number (now r).front.state) (now r).front.port (terms_of (now r).front) r.offer r.facts (back_texts (now r).keys.keys)

@@ -29,14 +29,11 @@ heard_other true gone own b settled other = λ e. absurd (other e)
 
 start_settled : (own : BusState) → IsFrontState own → state_needs own ≤ 1 → state_number own < 5 → Settled own state.Initialising
 start_settled state.Initialising h after low = tt
-start_settled state.Initialised h after low = absurd (omega arith)
-start_settled state.Connected h after low = absurd (omega arith)
-start_settled state.Closing h after low = absurd (omega arith)
-start_settled state.Closed h after low = absurd (omega arith)
 start_settled state.Unknown h after low = absurd h
 start_settled state.InitWait h after low = absurd h
 start_settled state.Reconfiguring h after low = absurd h
 start_settled state.Reconfigured h after low = absurd h
+start_settled other h after low = absurd (omega arith)
 
 offer_acts : (own : BusState) (closing gone idle : Bool) → IsFrontState own → state_needs own ≤ 2 → (closing ≡ false → state_number own < 5)
     → ActsFor (on_offer own) own closing gone idle state.InitWait
@@ -47,10 +44,7 @@ offer_acts state.Connected closing gone idle h after leaves_open = absurd (omega
 offer_acts state.Closing closing gone idle h after leaves_open =
     heard_other closing gone state.Closing state.InitWait (λ e. absurd (let low = leaves_open e in omega arith)) (states_differ state.InitWait state.Closed (omega arith))
 offer_acts state.Closed closing gone idle h after leaves_open = absurd (omega arith)
-offer_acts state.Unknown closing gone idle h after leaves_open = absurd h
-offer_acts state.InitWait closing gone idle h after leaves_open = absurd h
-offer_acts state.Reconfiguring closing gone idle h after leaves_open = absurd h
-offer_acts state.Reconfigured closing gone idle h after leaves_open = absurd h
+offer_acts other closing gone idle h after leaves_open = absurd h
 
 connected_acts : (own : BusState) (closing gone idle : Bool) → IsFrontState own → state_needs own ≤ 4 → 3 ≤ state_number own
     → (closing ≡ false → state_number own < 5) → ActsFor (on_connected own) own closing gone idle state.Connected
@@ -61,22 +55,12 @@ connected_acts state.Connected closing gone idle h after ready leaves_open =
 connected_acts state.Closing closing gone idle h after ready leaves_open =
     heard_other closing gone state.Closing state.Connected (λ e. absurd (let low = leaves_open e in omega arith)) (states_differ state.Connected state.Closed (omega arith))
 connected_acts state.Closed closing gone idle h after ready leaves_open = absurd (omega arith)
-connected_acts state.Unknown closing gone idle h after ready leaves_open = absurd h
-connected_acts state.InitWait closing gone idle h after ready leaves_open = absurd h
-connected_acts state.Reconfiguring closing gone idle h after ready leaves_open = absurd h
-connected_acts state.Reconfigured closing gone idle h after ready leaves_open = absurd h
+connected_acts other closing gone idle h after ready leaves_open = absurd h
 
 closing_acts : (own : BusState) (closing gone idle : Bool) → ActsFor (on_closing own idle) own closing gone idle state.Closing
 closing_acts state.Initialised closing gone false = (refl, refl)
 closing_acts state.Initialised closing gone true = refl
-closing_acts state.Unknown closing gone idle = refl
-closing_acts state.Initialising closing gone idle = refl
-closing_acts state.InitWait closing gone idle = refl
-closing_acts state.Connected closing gone idle = refl
-closing_acts state.Closing closing gone idle = refl
-closing_acts state.Closed closing gone idle = refl
-closing_acts state.Reconfiguring closing gone idle = refl
-closing_acts state.Reconfigured closing gone idle = refl
+closing_acts other closing gone idle = refl
 
 gone_acts : (own : BusState) (closing gone idle : Bool) → ActsFor (on_gone idle 6) own closing gone idle state.Closed
 gone_acts own closing gone true = (refl, refl)
@@ -98,7 +82,4 @@ front_acts state.Connected own true gone false hb h after connected leaves_open 
 front_acts state.Connected own false gone idle hb h after connected leaves_open = connected_acts own false gone idle h after (connected (omega arith)) leaves_open
 front_acts state.Closing own closing gone idle hb h after connected leaves_open = closing_acts own closing gone idle
 front_acts state.Closed own closing gone idle hb h after connected leaves_open = gone_acts own closing gone idle
-front_acts state.Unknown own closing gone idle hb h after connected leaves_open = absurd hb
-front_acts state.Initialised own closing gone idle hb h after connected leaves_open = absurd hb
-front_acts state.Reconfiguring own closing gone idle hb h after connected leaves_open = absurd hb
-front_acts state.Reconfigured own closing gone idle hb h after connected leaves_open = absurd hb
+front_acts other own closing gone idle hb h after connected leaves_open = absurd hb

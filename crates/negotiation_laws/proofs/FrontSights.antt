@@ -78,16 +78,11 @@ module _ (b : BusState) where
   feature_sees : (k : BackKey) (o : Option ℕ) (v : FrontView) (w : Watches) → Sees back_state w (b ≡ state.InitWait) → Sight (feature_step k o (at (stage.ReadFeature k) v)) b w
   feature_sees k None v w h = sees_so back_state w (b ≡ state.InitWait) (Unit {0}) (λ a. tt) h
   feature_sees back_key.FeatureBarrier (Some m) v w h = h
-  feature_sees back_key.FeatureFlushCache (Some m) v w h = h
-  feature_sees back_key.FeatureDiscard (Some m) v w h = h
-  feature_sees back_key.FeaturePersistent (Some m) v w h = h
-  feature_sees back_key.FeatureMaxIndirectSegments (Some m) v w h = h
   feature_sees k (Some m) v w h = h
 
   fact_sees : (k : BackKey) (o : Option ℕ) (v : FrontView) (w : Watches) → Sees back_state w (FactsHeard v.closing b) → Sight (fact_step k o (at (stage.ReadFact k) v)) b w
   fact_sees k None v w h = sees_so back_state w (FactsHeard v.closing b) (Unit {0}) (λ a. tt) h
   fact_sees back_key.Sectors (Some m) v w h = h
-  fact_sees back_key.SectorSize (Some m) v w h = h
   fact_sees k (Some m) v w h = h
 
   -- the ring is made and published, and grants are ended
@@ -136,11 +131,7 @@ module _ (b : BusState) where
   written_sees state.Closing v w writes leaves_open h =
       sees_so back_state w (RestHeard true v.state v.gone b) (RestHeard v.closing state.Closing v.gone b) (closing_heard v.closing v.gone v.state leaves_open) h
   written_sees state.Closed v w writes leaves_open h = h
-  written_sees state.Unknown v w writes leaves_open h = absurd writes
-  written_sees state.Initialising v w writes leaves_open h = absurd writes
-  written_sees state.InitWait v w writes leaves_open h = absurd writes
-  written_sees state.Reconfiguring v w writes leaves_open h = absurd writes
-  written_sees state.Reconfigured v w writes leaves_open h = absurd writes
+  written_sees other v w writes leaves_open h = absurd writes
 
   -- the front waits: its watch is taken, or it stays as it is
   woken : (v : FrontView) (idle : Bool) (w : Watches) → Sees back_state w (RestHeard v.closing v.state v.gone b)
@@ -176,7 +167,6 @@ module _ (b : BusState) where
   front_sees_at (stage.ReadFeature k) v idle port d shown acts writes leaves_open h = feature_sees k (count_read (key_of d.keys (back_path k))) v d.front h
   front_sees_at (stage.RingWord word) v idle port d shown acts writes leaves_open h = word_sees word (word == 15) v d.front h
   front_sees_at (stage.Grant page) v idle port d shown acts writes leaves_open h = grant_sees page (nat_lt (page + 1) (pages_of v)) v d.front h
-  front_sees_at stage.NewPort v idle port d shown acts writes leaves_open h = h
   front_sees_at (stage.Publish k) v idle port d shown acts writes leaves_open h =
       publish_sees (next_published (ring_order v) k) v (fired d.front (front_path k)) (sees_kept back_state (front_path k) d.front (b ≡ state.InitWait) refl h)
   front_sees_at (stage.ReadFact k) v idle port d shown acts writes leaves_open h = fact_sees k (fact_read k (key_of d.keys (back_path k))) v d.front h
@@ -185,9 +175,9 @@ module _ (b : BusState) where
       front_sees_kept front_state w.stage w.closing w.state w.gone b d.front refl (written_sees s v d.front writes leaves_open h)
   front_sees_at (stage.EndGrant page) v idle port d shown acts writes leaves_open h = end_sees page (nat_lt (page + 1) (pages_of v)) v d.front h
   front_sees_at stage.EndOtherGrants v idle port d shown acts writes leaves_open h = others_see v.port v d.front h
-  front_sees_at stage.ClosePort v idle port d shown acts writes leaves_open h = h
   front_sees_at stage.Closed v idle port d shown acts writes leaves_open h = closed_sees (next_watch d.front) v idle d.front h
   front_sees_at (stage.Broken word) v idle port d shown acts writes leaves_open h = broken_sees word (next_watch d.front) v idle d.front h
+  front_sees_at other v idle port d shown acts writes leaves_open h = h
 
 -- a front that has published keeps its port and its terms until it leaves
 pub record KeepsTerms (v w : FrontView) : Type 0 where
@@ -196,12 +186,7 @@ pub record KeepsTerms (v w : FrontView) : Type 0 where
 
 acted_keeps : (act : FrontAction) (v : FrontView) → KeepsTerms v (acted act (at stage.ReadState v))
 acted_keeps action.Nothing v = record { port = refl; terms = refl }
-acted_keeps action.Publish v = record { port = refl; terms = refl }
-acted_keeps action.Connect v = record { port = refl; terms = refl }
-acted_keeps action.Close v = record { port = refl; terms = refl }
-acted_keeps action.CloseAndConnect v = record { port = refl; terms = refl }
-acted_keeps action.Leave v = record { port = refl; terms = refl }
-acted_keeps (action.Break word) v = record { port = refl; terms = refl }
+acted_keeps other v = record { port = refl; terms = refl }
 
 fact_keeps : (k : BackKey) (o : Option ℕ) (v : FrontView) → KeepsTerms v (fact_step k o (at (stage.ReadFact k) v))
 fact_keeps k None v = record { port = refl; terms = refl }
@@ -219,19 +204,13 @@ early own e late = let low : state_number own ≡ 1 = rw e refl in omega arith
 -- at each move
 pub front_keeps_terms : (s : FrontBusStage) (v : FrontView) (idle : Bool) (port : ℕ) (d : Directory) (n : ℕ) → IsTimely s v.state
     → 3 ≤ state_number v.state → stage_needs s ≤ n → n < 6 → KeepsTerms v (step_at s (at s v) idle (front_answered (ask_at s v) port d))
-front_keeps_terms stage.Start v idle port d n timely late after low = record { port = refl; terms = refl }
 front_keeps_terms stage.Rest v idle port d n timely late after low = woken_keeps stage.Rest (next_watch d.front) v idle
 front_keeps_terms stage.ReadState v idle port d n timely late after low =
     acted_keeps (front_action v.state v.closing idle (state_read (key_of d.keys back_state))) v
 front_keeps_terms (stage.ReadFeature k) v idle port d n timely late after low = absurd (early v.state timely late)
-front_keeps_terms (stage.RingWord word) v idle port d n timely late after low = record { port = refl; terms = refl }
-front_keeps_terms (stage.Grant page) v idle port d n timely late after low = record { port = refl; terms = refl }
 front_keeps_terms stage.NewPort v idle port d n timely late after low = absurd (early v.state timely late)
-front_keeps_terms (stage.Publish k) v idle port d n timely late after low = record { port = refl; terms = refl }
 front_keeps_terms (stage.ReadFact k) v idle port d n timely late after low = fact_keeps k (fact_read k (key_of d.keys (back_path k))) v
-front_keeps_terms (stage.WriteState s) v idle port d n timely late after low = record { port = refl; terms = refl }
-front_keeps_terms (stage.EndGrant page) v idle port d n timely late after low = record { port = refl; terms = refl }
-front_keeps_terms stage.EndOtherGrants v idle port d n timely late after low = record { port = refl; terms = refl }
 front_keeps_terms stage.ClosePort v idle port d n timely late after low = absurd (omega arith)
 front_keeps_terms stage.Closed v idle port d n timely late after low = woken_keeps stage.Closed (next_watch d.front) v idle
 front_keeps_terms (stage.Broken word) v idle port d n timely late after low = woken_keeps (stage.Broken word) (next_watch d.front) v idle
+front_keeps_terms other v idle port d n timely late after low = record { port = refl; terms = refl }

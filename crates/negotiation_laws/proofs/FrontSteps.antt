@@ -43,12 +43,7 @@ pub said_later : (own : BusState) (port : Option ℕ) (terms : FrontTerms) (text
 said_later state.Initialising port terms texts h some = absurd (no_port port h.0 some)
 said_later state.Initialised port terms texts h some = h.1
 said_later state.Connected port terms texts h some = h.1
-said_later state.Unknown port terms texts h some = h some
-said_later state.InitWait port terms texts h some = h some
-said_later state.Closing port terms texts h some = h some
-said_later state.Closed port terms texts h some = h some
-said_later state.Reconfiguring port terms texts h some = h some
-said_later state.Reconfigured port terms texts h some = h some
+said_later other port terms texts h some = h some
 
 module _ (n : ℕ) (f : Features) (disk : DiskFacts) where
   -- a front that holds at the stage that it is at
@@ -326,11 +321,7 @@ module _ (n : ℕ) (f : Features) (disk : DiskFacts) where
       record { own = tt; writes = tt; stage_after = omega arith; state_after = omega arith; gone_after = h.gone_after; leaves_open = λ o. absurd (h.leaves_open o).1; fits = h.fits; said = said_later v.state v.port (terms_of v) texts h.said; read = tt }
   written_holds state.Closed v texts h =
       record { own = tt; writes = tt; stage_after = h.stage_after; state_after = h.stage_after; gone_after = h.gone_after; leaves_open = λ o. absurd (h.leaves_open o).1; fits = h.fits; said = said_later v.state v.port (terms_of v) texts h.said; read = tt }
-  written_holds state.Unknown v texts h = absurd h.writes
-  written_holds state.Initialising v texts h = absurd h.writes
-  written_holds state.InitWait v texts h = absurd h.writes
-  written_holds state.Reconfiguring v texts h = absurd h.writes
-  written_holds state.Reconfigured v texts h = absurd h.writes
+  written_holds other v texts h = absurd h.writes
 
   -- the front leaves
   end_holds : (page : ℕ) (v : FrontView) (texts : FrontKey → Option (List ℕ)) (more : Bool) → FrontHolds (stage.EndGrant page) v n f disk texts

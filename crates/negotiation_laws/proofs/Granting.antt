@@ -1,5 +1,5 @@
 -- The ring is granted before the back maps it.
-use Rattle.std.proofs.Common.{◌≡◌, ◌∙◌, ap, sym, subst, ℕ, zero, suc, ◌+◌, ◌^◌, ◌<◌, ◌≤◌, ◌==◌, ◌&&◌, ◌||◌, nat_lt, Bool, true, false, true≢false, List, [], ◌∷◌, ◌++◌, map, length, refl, arith, if◌then◌else◌, unwrap_or}
+use Rattle.std.proofs.Common.{◌≡◌, ◌∙◌, ap, sym, subst, ℕ, zero, suc, ◌+◌, ◌^◌, ◌<◌, ◌≤◌, ◌==◌, ◌&&◌, nat_lt, Bool, true, false, true≢false, List, [], ◌∷◌, ◌++◌, map, length, refl, arith, if◌then◌else◌, unwrap_or}
 use Rattle.std.specs.Prelude.{Option, None, Some, IsSome, slice_index}
 use Rattle.std.proofs.lemmas.Bool.Decides.{nat_tests}
 use Rattle.blk_base.specs.declared.parts.Mapping.{Mapping}
@@ -29,7 +29,7 @@ use Rattle.xenbus_state.specs.declared.front.FrontBusAsk.{FrontBusAsk}
 use Rattle.xenbus_state.specs.declared.front.FrontBusAsk.TheVariants as front_ask
 use Rattle.xenbus_state.specs.declared.back.BackBusAsk.{BackBusAsk}
 use Rattle.xenbus_state.specs.declared.back.BackBusAsk.TheVariants as back_ask
-use Rattle.xenbus_state.specs.FrontView.{FrontView, pages_of, ring_order, terms_of, closed, is_broken}
+use Rattle.xenbus_state.specs.FrontView.{FrontView, pages_of, ring_order, terms_of, closed}
 use Rattle.xenbus_state.specs.FrontAsk as front_asks
 use Rattle.xenbus_state.specs.FrontAsk.{due, due_at, leaving, closing_stage}
 use Rattle.xenbus_state.specs.FrontStep as front_step
@@ -38,11 +38,12 @@ use Rattle.xenbus_state.specs.BackView.{BackView, is_halting}
 use Rattle.xenbus_state.specs.BackAsk as back_asks
 use Rattle.xenbus_state.specs.BackSound.{IsPlaced, IsResting, IsMapped}
 use Rattle.negotiation_laws.specs.Negotiation.{Negotiation, back_path, back_state, front_answered, front_woken}
-use Rattle.negotiation_laws.specs.Happening.{Happening, FrontMoves, BackMoves, FrontCloses, BackCloses, happened, after}
+use Rattle.negotiation_laws.specs.Happening.{Happening, FrontMoves, FrontCloses, happened, after}
 use Rattle.negotiation_laws.specs.Within.{HavePorts}
 use Rattle.negotiation_laws.specs.Run.{NegotiationRun, now, begins}
 use Rattle.negotiation_laws.specs.Granted.{granted, granted_in, granted_by}
 use Rattle.negotiation_laws.specs.Laws.{granted_now, BackMapsAfterTheGrants, ConnectedStaysGranted, ConnectsToAConnectedBack}
+use Rattle.negotiation_laws.proofs.Choices.{closed_cases}
 use Rattle.negotiation_laws.proofs.Shown.{state_shown}
 use Rattle.negotiation_laws.proofs.Grefs.{numbers_push}
 use Rattle.negotiation_laws.proofs.FrontActs as front_acts
@@ -98,29 +99,22 @@ due_grants s v idle held h = h
 -- the back's state is read
 acted_grants : (act : FrontAction) (v : FrontView) (idle : Bool) (b : BusState) (held : List ℕ) → front_acts.ActsFor act v.state v.closing v.gone idle b
     → GrantedAt v.state v.port (pages_of v) held → let w = front_step.acted act (front_step.at front.ReadState v) in Grants w.stage w held
-acted_grants front_act.Nothing v idle b held acts h = h
 acted_grants front_act.Publish v idle b held acts h = subst (λ (own : BusState). GrantedAt own v.port (pages_of v) held) acts.0 h
 acted_grants front_act.Connect v idle b held acts h = subst (λ (own : BusState). GrantedAt own v.port (pages_of v) held) acts.0 h
-acted_grants front_act.Close v idle b held acts h = h
 acted_grants front_act.CloseAndConnect v idle b held acts h = subst (λ (own : BusState). GrantedAt own v.port (pages_of v) held) acts.0 h
-acted_grants front_act.Leave v idle b held acts h = h
 acted_grants (front_act.Break word) v idle b held acts h = tt
+acted_grants other v idle b held acts h = h
 
 feature_grants : (k : BackKey) (o : Option ℕ) (v : FrontView) (held : List ℕ) → held ≡ []
     → let w = front_step.feature_step k o (front_step.at (front.ReadFeature k) v) in Grants w.stage w held
 feature_grants k None v held h = tt
 feature_grants back_key.FeatureBarrier (Some m) v held h = h
-feature_grants back_key.FeatureFlushCache (Some m) v held h = h
-feature_grants back_key.FeatureDiscard (Some m) v held h = h
-feature_grants back_key.FeaturePersistent (Some m) v held h = h
-feature_grants back_key.FeatureMaxIndirectSegments (Some m) v held h = h
 feature_grants k (Some m) v held h = h
 
 fact_grants : (k : BackKey) (o : Option ℕ) (v : FrontView) (held : List ℕ) → held ≡ numbers_from 0 (pages_of v)
     → let w = front_step.fact_step k o (front_step.at (front.ReadFact k) v) in Grants w.stage w held
 fact_grants k None v held h = tt
 fact_grants back_key.Sectors (Some m) v held h = h
-fact_grants back_key.SectorSize (Some m) v held h = h
 fact_grants k (Some m) v held h = h
 
 word_grants : (word : ℕ) (last : Bool) (v : FrontView) (held : List ℕ) → held ≡ [] → Grants (if last then front.Grant 0 else front.RingWord (word + 1)) v held
@@ -152,12 +146,7 @@ granted_later : (own : BusState) (port : Option ℕ) (pages : ℕ) (held : List 
 granted_later state.Initialising port pages held none h some = absurd (none refl some)
 granted_later state.Initialised port pages held none h some = h
 granted_later state.Connected port pages held none h some = h
-granted_later state.Unknown port pages held none h some = h some
-granted_later state.InitWait port pages held none h some = h some
-granted_later state.Closing port pages held none h some = h some
-granted_later state.Closed port pages held none h some = h some
-granted_later state.Reconfiguring port pages held none h some = h some
-granted_later state.Reconfigured port pages held none h some = h some
+granted_later other port pages held none h some = h some
 
 written_grants : (s : BusState) (v : FrontView) (held : List ℕ) → (v.state ≡ state.Initialising → IsSome v.port → ⊥) → IsFrontWrite (front.WriteState s)
     → Grants (front.WriteState s) v held → let w = front_step.written s (front_step.at (front.WriteState s) v) in Grants w.stage w held
@@ -242,11 +231,7 @@ module _ (f : Features) (d : DiskFacts) (t : Negotiation) where
   grants_at (front.Broken word) idle port held timely page own h g = woken_grants (front.Broken word) (next_watch t.keys.front) t.front idle held tt
 
 closed_grants : (v : FrontView) (held : List ℕ) → Grants v.stage v held → Grants (closed v).stage (closed v) held
-closed_grants v held g = by_test (v.closing || is_broken v.stage)
-  where
-    by_test : (already : Bool) → let w = (if already then v else record v { closing = true }) in Grants w.stage w held
-    by_test true = g
-    by_test false = g
+closed_grants v held g = closed_cases (λ (w : FrontView). Grants w.stage w held) v g g
 
 grants_once : (f : Features) (d : DiskFacts) (x : Happening) (t : Negotiation) (held : List ℕ) → Holds f d t → Grants t.front.stage t.front held
     → Grants (happened x t).front.stage (happened x t).front (granted_in x t held)
@@ -254,9 +239,8 @@ grants_once f d (FrontMoves idle port) t held h g =
     let v = t.front in
     let own = due_holds (state_number t.back.state) f d v.stage v idle (front_texts t.keys.keys) h.front in
     grants_at f d t (due v idle) idle port held (due_timely v.stage v idle h.front_sound.timely) (due_page v.stage v idle h.front_sound.placed) own h (due_grants v.stage v idle held g)
-grants_once f d (BackMoves page) t held h g = g
 grants_once f d FrontCloses t held h g = closed_grants t.front held g
-grants_once f d BackCloses t held h g = g
+grants_once f d other t held h g = g
 
 all_granted : (f : Features) (d : DiskFacts) (xs : List Happening) (t : Negotiation) (held : List ℕ) → HavePorts xs → Holds f d t
     → Grants t.front.stage t.front held → Grants (after xs t).front.stage (after xs t).front (granted xs t held)
@@ -381,15 +365,11 @@ serves_at (back.WriteState state.Connected) v n placed halting low four = absurd
 serves_at (back.WriteState state.Closing) v n placed halting low four = absurd (let late = halting refl in omega arith)
 serves_at (back.WriteState state.Closed) v n placed halting low four = absurd (let late = halting refl in omega arith)
 serves_at (back.WriteState s) v n placed halting low four = absurd placed
-serves_at back.Watch v n placed halting low four = absurd (too_early v.state state.InitWait placed.0 (omega arith) four)
-serves_at (back.ReadKey k) v n placed halting low four = absurd (too_early v.state state.InitWait placed.0 (omega arith) four)
-serves_at back.MapPage v n placed halting low four = absurd (too_early v.state state.InitWait placed.0 (omega arith) four)
-serves_at back.Bind v n placed halting low four = absurd (too_early v.state state.InitWait placed.0 (omega arith) four)
-serves_at (back.PublishFact k) v n placed halting low four = absurd (too_early v.state state.InitWait placed.0 (omega arith) four)
 serves_at back.UnmapOthers v n placed halting low four = absurd (let late = halting refl in omega arith)
 serves_at back.UnmapPage v n placed halting low four = absurd (let late = halting refl in omega arith)
 serves_at back.ClosePort v n placed halting low four = absurd (let late = halting refl in omega arith)
 serves_at back.Halted v n placed halting low four = absurd (let late = halting refl in omega arith)
+serves_at other v n placed halting low four = absurd (too_early v.state state.InitWait placed.0 (omega arith) four)
 
 abbrev ConnectsNow : FrontBusAsk → BackView → Type 0
 ConnectsNow (front_ask.SetState state.Connected) v = IsServing v
@@ -399,8 +379,6 @@ connects_at : (f : Features) (d : DiskFacts) (t : Negotiation) (s : FrontBusStag
     → FrontHolds s t.front (state_number t.back.state) f d (front_texts t.keys.keys) → Holds f d t → ConnectsNow (front_asks.ask_at s t.front) t.back
 connects_at f d t (front.WriteState state.Connected) timely own h =
     (let low = timely.0 in serves_at t.back.stage t.back (state_number t.front.state) h.back_sound.placed h.back.halting_after (omega arith) own.stage_after)
-connects_at f d t (front.WriteState s) timely own h = tt
-connects_at f d t front.Start timely own h = tt
 connects_at f d t s timely own h = tt
 
 pub connects_to_connected : ConnectsToAConnectedBack

@@ -21,18 +21,19 @@ use Rattle.xenbus_state.specs.declared.table.BackAction.{BackAction}
 use Rattle.xenbus_state.specs.declared.table.BackAction.TheVariants as back_act
 use Rattle.xenbus_state.specs.declared.back.BackBusAsk.TheVariants as back_ask
 use Rattle.xenbus_state.specs.FrontView.{terms_of}
-use Rattle.xenbus_state.specs.BackView.{BackView, unplugged, is_halting}
+use Rattle.xenbus_state.specs.BackView.{BackView, unplugged}
 use Rattle.xenbus_state.specs.BackAsk as back_asks
 use Rattle.xenbus_state.specs.BackReading as reading
 use Rattle.xenbus_state.specs.BackStep as back_step
 use Rattle.xenbus_state.specs.BackSound.{IsPlaced, IsWriting}
 use Rattle.xenbus_state.proofs.BackKeeps.{says_where}
 use Rattle.negotiation_laws.specs.Negotiation.{Negotiation, front_path, front_state, back_answered, back_woken, back_moved}
-use Rattle.negotiation_laws.specs.Happening.{Happening, FrontMoves, BackMoves, FrontCloses, BackCloses, happened, after}
+use Rattle.negotiation_laws.specs.Happening.{Happening, BackMoves, BackCloses, happened, after}
 use Rattle.negotiation_laws.specs.Within.{HavePorts}
 use Rattle.negotiation_laws.specs.Run.{NegotiationRun, now, begins}
 use Rattle.negotiation_laws.specs.Said.{back_texts}
 use Rattle.negotiation_laws.specs.Laws.{TheRingOutlastsTheBack}
+use Rattle.negotiation_laws.proofs.Choices.{unplugged_cases}
 use Rattle.negotiation_laws.proofs.BackSteps.{key_holds}
 use Rattle.negotiation_laws.proofs.Shows.{serving_open}
 use Rattle.negotiation_laws.proofs.Holds.{Holds, start_holds, happening_holds, front_shows}
@@ -110,9 +111,7 @@ module _ (f : Features) (d : DiskFacts) (t : Negotiation) where
       → BackHolds s t.back (state_number t.front.state) t.front.port (terms_of t.front) f d (back_texts t.keys.keys) → Holds f d t
       → (HasRing t.back.pages t.back.bound → serves s t.back.state ≡ true)
       → IsServing (back_step.step_at s (back_step.at s t.back) (back_answered (back_asks.ask_at s t.back) page t.keys))
-  serving_at (back.Publish k) page placed held h e has = absurd (has_none t.back.pages t.back.bound placed.1.pages placed.1.bound has)
   serving_at (back.WriteState s) page placed held h e has = written_serving s t.back placed has
-  serving_at back.Watch page placed held h e has = absurd (has_none t.back.pages t.back.bound placed.1.pages placed.1.bound has)
   serving_at back.Rest page placed held h e has = woken_serving back.Rest (next_watch t.keys.back) t.back e has
   serving_at back.ReadState page placed held h e has =
       acted_serving (back_action t.back.state t.back.unplugged (state_read (key_of t.keys.keys front_state))) t.back e has
@@ -124,6 +123,7 @@ module _ (f : Features) (d : DiskFacts) (t : Negotiation) where
   serving_at back.UnmapPage page placed held h e has = unmap_serving t.back.pages t.back page t.keys placed.1 (e (inl placed.1)) has
   serving_at back.ClosePort page placed held h e has = absurd (has_none t.back.pages false placed.1 refl has)
   serving_at back.Halted page placed held h e has = woken_serving back.Halted (next_watch t.keys.back) t.back e has
+  serving_at other page placed held h e has = absurd (has_none t.back.pages t.back.bound placed.1.pages placed.1.bound has)
 
   saying_serving : (s : BackBusStage) (own : BusState) → back_asks.says_closing_at s own ≡ true → serves s state.Closing ≡ true
   saying_serving back.Rest state.Connected e = refl
@@ -139,17 +139,12 @@ module _ (f : Features) (d : DiskFacts) (t : Negotiation) where
       by_test false says has = serving_at t.back.stage page h.back_sound.placed h.back h e has
 
 unplugged_serving : (v : BackView) → IsServing v → IsServing (unplugged v)
-unplugged_serving v e = by_test (is_halting v.stage)
-  where
-    by_test : (halts : Bool) → IsServing (if halts then v else record v { unplugged = true })
-    by_test true = e
-    by_test false = e
+unplugged_serving v e = unplugged_cases IsServing v e e
 
 serving_once : (f : Features) (d : DiskFacts) (x : Happening) (t : Negotiation) → Holds f d t → IsServing t.back → IsServing (happened x t).back
-serving_once f d (FrontMoves idle port) t h e = e
 serving_once f d (BackMoves page) t h e = back_move_serving f d t page h e
-serving_once f d FrontCloses t h e = e
 serving_once f d BackCloses t h e = unplugged_serving t.back e
+serving_once f d other t h e = e
 
 all_serving : (f : Features) (d : DiskFacts) (xs : List Happening) (t : Negotiation) → HavePorts xs → Holds f d t → IsServing t.back → IsServing (after xs t).back
 all_serving f d [] t fits h e = e

@@ -40,11 +40,7 @@ module _ (keys : List (List ℕ × List ℕ)) where
     where
       differs : (k : FrontKey) → bytes_eq (front_path k) front_state ≡ false
       differs front.RingPageOrder = refl
-      differs front.RingRef = refl
-      differs (front.RingRefOf page) = refl
-      differs front.EventChannel = refl
-      differs front.Protocol = refl
-      differs front.FeaturePersistent = refl
+      differs other = refl
 
   pub back_texts_state : (text : List ℕ) → back_texts (with_key keys back_state text) ≡ back_texts keys
   back_texts_state text = equal_everywhere _ _ (λ k. key_kept keys back_state text (back_path k) (differs k))

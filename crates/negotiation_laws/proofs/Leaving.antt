@@ -32,24 +32,18 @@ closed_halted (back.WriteState state.Connected) v e placed high = absurd (not_ye
 closed_halted (back.WriteState state.Closing) v e placed high = absurd (let low = placed.0 in omega arith)
 closed_halted (back.WriteState state.Closed) v e placed high = absurd (not_yet v.state state.Closing placed.0 (omega arith) high)
 closed_halted (back.WriteState s) v e placed high = absurd placed
-closed_halted back.Watch v e placed high = absurd (not_yet v.state state.InitWait placed.0 (omega arith) high)
 closed_halted back.Rest v e placed high = absurd (let low = resting_early v.state v placed in omega arith)
 closed_halted back.ReadState v e placed high = absurd (let low = resting_early v.state v placed in omega arith)
-closed_halted (back.ReadKey k) v e placed high = absurd (not_yet v.state state.InitWait placed.0 (omega arith) high)
-closed_halted back.MapPage v e placed high = absurd (not_yet v.state state.InitWait placed.0 (omega arith) high)
-closed_halted back.Bind v e placed high = absurd (not_yet v.state state.InitWait placed.0 (omega arith) high)
-closed_halted (back.PublishFact k) v e placed high = absurd (not_yet v.state state.InitWait placed.0 (omega arith) high)
 closed_halted back.UnmapOthers v e placed high = absurd (let low = placed in omega arith)
 closed_halted back.UnmapPage v e placed high = absurd (let low = placed.0 in omega arith)
 closed_halted back.ClosePort v e placed high = absurd (let low = placed.0 in omega arith)
+closed_halted other v e placed high = absurd (not_yet v.state state.InitWait placed.0 (omega arith) high)
 
 leaves_at : (s : FrontBusStage) (v : FrontView) (n : ℕ) → stage_needs s ≤ n → IsLeaving (front_asks.ask_at s v) → 6 ≤ n
 leaves_at (front.EndGrant page) v n after leaves = after
 leaves_at front.EndOtherGrants v n after leaves = after
 leaves_at front.ClosePort v n after leaves = after
 leaves_at (front.WriteState state.Closed) v n after leaves = after
-leaves_at (front.WriteState s) v n after leaves = absurd leaves
-leaves_at front.Start v n after leaves = absurd leaves
 leaves_at s v n after leaves = absurd leaves
 
 pub leaves_after : LeavesAfterTheBack

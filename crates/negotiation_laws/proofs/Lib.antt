@@ -1,3 +1,4 @@
+pub mod Choices
 pub mod Paths
 pub mod Keys
 pub mod Subjects

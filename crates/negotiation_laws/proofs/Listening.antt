@@ -1,5 +1,5 @@
 -- No watch is lost.
-use Rattle.std.proofs.Common.{◌≡◌, ap, sym, subst, ℕ, ◌<◌, ◌||◌, ◌⊎◌, Bool, true, false, true≢false, List, [], ◌∷◌, length, refl, arith, if◌then◌else◌, inl, inr}
+use Rattle.std.proofs.Common.{◌≡◌, ap, sym, subst, ℕ, ◌<◌, ◌⊎◌, Bool, true, false, true≢false, List, [], ◌∷◌, length, refl, arith, if◌then◌else◌, inl, inr}
 use Rattle.std.specs.Prelude.{Option, None, Some}
 use Rattle.blk_base.specs.declared.parts.Mapping.{Mapping}
 use Rattle.key_directory.specs.Directory.{Directory, key_of}
@@ -20,11 +20,11 @@ use Rattle.xenbus_state.specs.declared.front.FrontBusAsk.{FrontBusAsk}
 use Rattle.xenbus_state.specs.declared.front.FrontBusAsk.TheVariants as front_ask
 use Rattle.xenbus_state.specs.declared.back.BackBusAsk.{BackBusAsk}
 use Rattle.xenbus_state.specs.declared.back.BackBusAsk.TheVariants as back_ask
-use Rattle.xenbus_state.specs.FrontView.{FrontView, closed, is_broken}
+use Rattle.xenbus_state.specs.FrontView.{FrontView, closed}
 use Rattle.xenbus_state.specs.FrontAsk as front_asks
 use Rattle.xenbus_state.specs.FrontAsk.{due, due_at}
 use Rattle.xenbus_state.specs.FrontStep as front_step
-use Rattle.xenbus_state.specs.BackView.{BackView, unplugged, is_halting}
+use Rattle.xenbus_state.specs.BackView.{BackView, unplugged}
 use Rattle.xenbus_state.specs.BackAsk as back_asks
 use Rattle.xenbus_state.specs.BackStep as back_step
 use Rattle.xenbus_state.specs.BackSound.{IsPlaced}
@@ -35,6 +35,7 @@ use Rattle.negotiation_laws.specs.Within.{HavePorts}
 use Rattle.negotiation_laws.specs.Run.{now, begins}
 use Rattle.negotiation_laws.specs.Heard.{front_listens, back_listens, front_heard_by, front_heard_in, front_heard, back_heard_by, back_heard_in, back_heard}
 use Rattle.negotiation_laws.specs.Laws.{NoFrontWatchIsLost, NoBackWatchIsLost}
+use Rattle.negotiation_laws.proofs.Choices.{closed_cases, unplugged_cases}
 use Rattle.negotiation_laws.proofs.Shown.{state_shown}
 use Rattle.negotiation_laws.proofs.Watching.{sees_so, sees_kept, sees_fired, front_key_apart, back_key_apart}
 use Rattle.negotiation_laws.proofs.Between.{back_own}
@@ -114,20 +115,11 @@ FrontHears t last = front_listens t.front.stage ≡ true → Sees back_state t.k
 
 closed_hears : (t : Negotiation) (last : Option BusState) → FrontHears t last → FrontHears (record t { front = closed t.front }) last
 unfolding FrontHears
-closed_hears t last h = by_test (t.front.closing || is_broken t.front.stage)
-  where
-    by_test : (already : Bool) → front_listens (if already then t.front else record t.front { closing = true }).stage ≡ true
-        → Sees back_state t.keys.front (last ≡ Some t.back.state)
-    by_test true = h
-    by_test false = h
+closed_hears t last h = closed_cases (λ (v : FrontView). FrontHears (record t { front = v }) last) t.front h h
 
 unplugged_hears : (t : Negotiation) (last : Option BusState) → FrontHears t last → FrontHears (record t { back = unplugged t.back }) last
 unfolding FrontHears
-unplugged_hears t last h = by_test (is_halting t.back.stage)
-  where
-    by_test : (halts : Bool) → front_listens t.front.stage ≡ true → Sees back_state t.keys.front (last ≡ Some (if halts then t.back else record t.back { unplugged = true }).state)
-    by_test true = h
-    by_test false = h
+unplugged_hears t last h = unplugged_cases (λ (v : BackView). FrontHears (record t { back = v }) last) t.back h h
 
 front_hears_once : (f : Features) (d : DiskFacts) (x : Happening) (t : Negotiation) (last : Option BusState) → Holds f d t → FrontHears t last
     → FrontHears (happened x t) (front_heard_in x t last)
@@ -233,20 +225,11 @@ back_move_hears f d t page last h k = by_test (back_asks.says_closing t.back)
 
 back_closed_hears : (t : Negotiation) (last : Option BusState) → BackHears t last → BackHears (record t { front = closed t.front }) last
 unfolding BackHears
-back_closed_hears t last h = by_test (t.front.closing || is_broken t.front.stage)
-  where
-    by_test : (already : Bool) → back_listens t.back.stage ≡ true
-        → Sees front_state t.keys.back (last ≡ Some (if already then t.front else record t.front { closing = true }).state)
-    by_test true = h
-    by_test false = h
+back_closed_hears t last h = closed_cases (λ (v : FrontView). BackHears (record t { front = v }) last) t.front h h
 
 back_unplugged_hears : (t : Negotiation) (last : Option BusState) → BackHears t last → BackHears (record t { back = unplugged t.back }) last
 unfolding BackHears
-back_unplugged_hears t last h = by_test (is_halting t.back.stage)
-  where
-    by_test : (halts : Bool) → back_listens (if halts then t.back else record t.back { unplugged = true }).stage ≡ true → Sees front_state t.keys.back (last ≡ Some t.front.state)
-    by_test true = h
-    by_test false = h
+back_unplugged_hears t last h = unplugged_cases (λ (v : BackView). BackHears (record t { back = v }) last) t.back h h
 
 back_hears_once : (f : Features) (d : DiskFacts) (x : Happening) (t : Negotiation) (last : Option BusState) → Holds f d t → BackHears t last
     → BackHears (happened x t) (back_heard_in x t last)

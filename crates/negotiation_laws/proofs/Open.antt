@@ -38,7 +38,7 @@ use Rattle.xenbus_state.specs.BackReading.{order_of, layout_read, with_order, wi
 use Rattle.xenbus_state.specs.BackStep as back_step
 use Rattle.xenbus_state.specs.BackSound.{IsPlaced}
 use Rattle.negotiation_laws.specs.Negotiation.{Negotiation, front_path, back_path, front_state, back_state, front_answered, back_answered, back_woken, front_woken, back_done, front_moved, back_moved}
-use Rattle.negotiation_laws.specs.Happening.{Happening, FrontMoves, BackMoves, FrontCloses, BackCloses, happened, after, IsServed, AreServed}
+use Rattle.negotiation_laws.specs.Happening.{Happening, FrontMoves, BackMoves, happened, after, IsServed, AreServed}
 use Rattle.negotiation_laws.specs.Within.{HasPort, HavePorts}
 use Rattle.negotiation_laws.specs.Run.{now, begins}
 use Rattle.negotiation_laws.specs.Laws.{IsOpen, OnlyACloseCloses, closes, AreBoth, WaitsForRequests, ConnectedAtRest}
@@ -52,13 +52,10 @@ use Rattle.negotiation_laws.proofs.Holds.{Holds, start_holds, happening_holds, f
 -- the front begins to close only on reading that the back does
 acted_open : (act : FrontAction) (v : FrontView) (idle : Bool) (b : BusState) → state_number b ≤ 4 → front_acts.ActsFor act v.state v.closing v.gone idle b
     → (front_step.acted act (front_step.at front.ReadState v)).closing ≡ v.closing
-acted_open front_act.Nothing v idle b low acts = refl
-acted_open front_act.Publish v idle b low acts = refl
-acted_open front_act.Connect v idle b low acts = refl
 acted_open front_act.Close v idle b low acts = absurd (let same : state_number b ≡ 5 = ap state_number acts in omega arith)
 acted_open front_act.CloseAndConnect v idle b low acts = absurd (let same : state_number b ≡ 5 = ap state_number acts.1 in omega arith)
 acted_open front_act.Leave v idle b low acts = absurd (let same : state_number b ≡ 6 = ap state_number acts.0 in omega arith)
-acted_open (front_act.Break word) v idle b low acts = refl
+acted_open other v idle b low acts = refl
 
 feature_open : (k : BackKey) (o : Option ℕ) (v : FrontView) → (front_step.feature_step k o v).closing ≡ v.closing
 feature_open k None v = refl
@@ -97,8 +94,7 @@ module _ (f : Features) (d : DiskFacts) (t : Negotiation) where
   -- the back is asked to close by a close alone
   acted_unasked : (act : BackAction) (v : BackView) → (back_step.acted act v).unplugged ≡ v.unplugged
   acted_unasked back_act.Nothing v = refl
-  acted_unasked back_act.Connect v = refl
-  acted_unasked (back_act.Halt reason) v = refl
+  acted_unasked other v = refl
 
   kept_unasked : {A : Type 0} (g : A → BackView) (n : Option A) (v : BackView) → ((x : A) → (g x).unplugged ≡ v.unplugged)
       → (back_step.kept_or_halted (option_map g n) v).unplugged ≡ v.unplugged
@@ -111,16 +107,14 @@ module _ (f : Features) (d : DiskFacts) (t : Negotiation) where
   only_unasked false v = refl
 
   key_unasked : (k : FrontKey) (text : Option (List ℕ)) (v : BackView) → (back_step.kept_or_halted (reading.key_read k text v) v).unplugged ≡ v.unplugged
-  key_unasked front_key.RingPageOrder None v = refl
   key_unasked front_key.RingPageOrder (Some text) v = kept_unasked (with_order v (front_key.RingRefOf 0)) (order_of (number_of text)) v (λ x. refl)
   key_unasked (front_key.RingRefOf page) None v = only_unasked (v.terms.order == 0) v
   key_unasked (front_key.RingRefOf page) (Some text) v = kept_unasked (with_gref v (after_page v.terms.order page)) (number_of text) v (λ x. refl)
-  key_unasked front_key.RingRef None v = refl
   key_unasked front_key.RingRef (Some text) v = kept_unasked (with_gref v front_key.EventChannel) (number_of text) v (λ x. refl)
-  key_unasked front_key.EventChannel None v = refl
   key_unasked front_key.EventChannel (Some text) v = kept_unasked (with_port v) (number_of text) v (λ x. refl)
   key_unasked front_key.Protocol text v = kept_unasked (with_layout v) (layout_read text) v (λ x. refl)
   key_unasked front_key.FeaturePersistent text v = kept_unasked (with_persistent v) (count_read text) v (λ x. refl)
+  key_unasked other None v = refl
 
   back_woken_open : (s : BackBusStage) (o : Option (List ℕ)) (v : BackView) → (back_step.step_at s (back_step.at s v) (back_woken o)).unplugged ≡ v.unplugged
   back_woken_open back.Rest None v = refl
@@ -188,8 +182,7 @@ module _ (f : Features) (d : DiskFacts) (t : Negotiation) where
 open_once : (f : Features) (d : DiskFacts) (x : Happening) (t : Negotiation) → closes x ≡ false → HasPort x → Holds f d t → IsOpen t → IsOpen (happened x t)
 open_once f d (FrontMoves idle port) t e fits h o = front_move_open f d t idle port fits h o
 open_once f d (BackMoves page) t e fits h o = back_move_open f d t page h o
-open_once f d FrontCloses t e fits h o = absurd (true≢false e)
-open_once f d BackCloses t e fits h o = absurd (true≢false e)
+open_once f d other t e fits h o = absurd (true≢false e)
 
 neither : (a b : Bool) → (a || b) ≡ false → (a ≡ false) × (b ≡ false)
 neither false b e = (refl, e)
@@ -211,9 +204,7 @@ below_closing own low e = let same : state_number own ≡ 5 = ap state_number e 
 
 open_served_once : (x : Happening) (t : Negotiation) → IsOpen t → IsServed x t
 open_served_once (FrontMoves idle port) t o = λ e. absurd (below_closing t.front.state o.front_state e)
-open_served_once (BackMoves page) t o = tt
-open_served_once FrontCloses t o = tt
-open_served_once BackCloses t o = tt
+open_served_once other t o = tt
 
 open_served : (f : Features) (d : DiskFacts) (xs : List Happening) (t : Negotiation) → list_any closes xs ≡ false → HavePorts xs → Holds f d t → IsOpen t → AreServed xs t
 open_served f d [] t e fits h o = tt

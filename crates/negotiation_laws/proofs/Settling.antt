@@ -1,10 +1,10 @@
 -- Settling is bounded.
-use Rattle.std.proofs.Common.{◌≡◌, sym, subst, ℕ, ◌+◌, ◌-◌, ◌*◌, ◌^◌, ◌<◌, ◌≤◌, ◌==◌, ◌||◌, nat_lt, Bool, true, false, true≢false, List, [], ◌∷◌, ◌++◌, length, length-append, refl, arith, if◌then◌else◌, inl, inr}
+use Rattle.std.proofs.Common.{◌≡◌, sym, subst, ℕ, ◌+◌, ◌-◌, ◌*◌, ◌^◌, ◌<◌, ◌≤◌, ◌==◌, nat_lt, Bool, true, false, true≢false, List, [], ◌∷◌, ◌++◌, length, length-append, refl, arith, if◌then◌else◌}
 use Rattle.std.specs.Prelude.{Option, None, Some}
 use Rattle.std.specs.Option.{option_map}
 use Rattle.blk_base.specs.declared.parts.Mapping.{Mapping}
 use Rattle.key_directory.specs.Directory.{Directory, key_of}
-use Rattle.key_directory.specs.Watches.{Watches, next_watch, taken, has_pending}
+use Rattle.key_directory.specs.Watches.{Watches, has_pending}
 use Rattle.xenbus_state.specs.Numbers.{number_of}
 use Rattle.xenbus_state.specs.Tables.{back_action}
 use Rattle.xenbus_state.specs.Reading.{count_read}
@@ -26,9 +26,9 @@ use Rattle.xenbus_state.specs.declared.front.FrontBusAsk.{FrontBusAsk}
 use Rattle.xenbus_state.specs.declared.front.FrontBusAsk.TheVariants as front_ask
 use Rattle.xenbus_state.specs.declared.back.BackBusAsk.{BackBusAsk}
 use Rattle.xenbus_state.specs.declared.back.BackBusAsk.TheVariants as back_ask
-use Rattle.xenbus_state.specs.FrontView.{closed, is_broken}
+use Rattle.xenbus_state.specs.FrontView.{FrontView, closed}
 use Rattle.xenbus_state.specs.FrontAsk as front_asks
-use Rattle.xenbus_state.specs.BackView.{BackView, is_halting, unplugged}
+use Rattle.xenbus_state.specs.BackView.{BackView, unplugged}
 use Rattle.xenbus_state.specs.BackAsk as back_asks
 use Rattle.xenbus_state.specs.BackReading as reading
 use Rattle.xenbus_state.specs.BackReading.{order_of, layout_read, with_order, with_gref, with_port, with_layout, with_persistent}
@@ -42,13 +42,14 @@ use Rattle.negotiation_laws.specs.Within.{HavePorts}
 use Rattle.negotiation_laws.specs.Run.{now, begins}
 use Rattle.negotiation_laws.specs.Left.{fact_left, front_left, front_reading, back_rest_left, offered_left, read_left, back_write_left, back_left, back_reading, one_if, front_goes, back_goes, left, goes, moves_in}
 use Rattle.negotiation_laws.specs.Laws.{MovesLower, SettlingIsBounded, RestsWhereNothingGoes}
+use Rattle.negotiation_laws.proofs.Choices.{closed_cases, unplugged_cases}
 use Rattle.negotiation_laws.proofs.Shown.{state_shown}
 use Rattle.negotiation_laws.proofs.BackActs as back_acts
 use Rattle.negotiation_laws.proofs.Watching.{back_key_apart}
 use Rattle.negotiation_laws.proofs.Holds.{Holds, start_holds, happening_holds, acts_at}
 use Rattle.negotiation_laws.proofs.Found.{run_holds}
-use Rattle.negotiation_laws.proofs.Falling.{front_same, back_same, front_more, set_more, pendings, one_at_most, front_move_left}
-use Rattle.negotiation_laws.proofs.Subjects.{Sees, FrontSees, SettledBack, BackSees}
+use Rattle.negotiation_laws.proofs.Falling.{front_same, back_same, front_more, set_more, pendings, one_at_most, wait_falls, front_move_left}
+use Rattle.negotiation_laws.proofs.Subjects.{FrontSees, BackSees}
 
 -- a step of a program of the back lowers what is left of it
 record Falls (most : ℕ) (w : BackView) : Type 0 where
@@ -182,23 +183,6 @@ back_fires (back_ask.SetKey k value) d s closing fs gone b q no_wait f g =
     omega arith
 back_fires a d s closing fs gone b q no_wait f g = omega arith
 
--- the back waits
-rest_sum : (v : BackView) (w : Watches) (A : Type 0) → Sees front_state w A
-    → let u = back_step.step_at back.Rest (back_step.at back.Rest v) (back_woken (next_watch w)) in
-    one_if (has_pending w) + (3 * back_left u.stage u.state (length u.pages) + back_reading u.stage + 2 * length (taken w).pending) ≤ 3 * back_rest_left v.state + 2 * length w.pending
-rest_sum v w A (inl e) =
-    subst (λ (x : Watches). let u = back_step.step_at back.Rest (back_step.at back.Rest v) (back_woken (next_watch x)) in one_if (has_pending x) + (3 * back_left u.stage u.state (length u.pages) + back_reading u.stage + 2 * length (taken x).pending) ≤ 3 * back_rest_left v.state + 2 * length x.pending) (sym e) (omega arith)
-rest_sum v w A (inr (e, a)) =
-    subst (λ (x : Watches). let u = back_step.step_at back.Rest (back_step.at back.Rest v) (back_woken (next_watch x)) in one_if (has_pending x) + (3 * back_left u.stage u.state (length u.pages) + back_reading u.stage + 2 * length (taken x).pending) ≤ 3 * back_rest_left v.state + 2 * length x.pending) (sym e) (omega arith)
-
-halted_sum : (v : BackView) (w : Watches) (A : Type 0) → Sees front_state w A
-    → let u = back_step.step_at back.Halted (back_step.at back.Halted v) (back_woken (next_watch w)) in
-    one_if (has_pending w) + (3 * back_left u.stage u.state (length u.pages) + back_reading u.stage + 2 * length (taken w).pending) ≤ 0 + 2 * length w.pending
-halted_sum v w A (inl e) =
-    subst (λ (x : Watches). let u = back_step.step_at back.Halted (back_step.at back.Halted v) (back_woken (next_watch x)) in one_if (has_pending x) + (3 * back_left u.stage u.state (length u.pages) + back_reading u.stage + 2 * length (taken x).pending) ≤ 0 + 2 * length x.pending) (sym e) (omega arith)
-halted_sum v w A (inr (e, a)) =
-    subst (λ (x : Watches). let u = back_step.step_at back.Halted (back_step.at back.Halted v) (back_woken (next_watch x)) in one_if (has_pending x) + (3 * back_left u.stage u.state (length u.pages) + back_reading u.stage + 2 * length (taken x).pending) ≤ 0 + 2 * length x.pending) (sym e) (omega arith)
-
 -- the front's state is read
 record Reads (own : BusState) (w : BackView) : Type 0 where
   less : back_left w.stage w.state (length w.pages) ≤ back_rest_left own
@@ -235,6 +219,10 @@ module _ (f : Features) (d : DiskFacts) (t : Negotiation) where
       one_if (back_goes (back_asks.ask_at s t.back) t.keys.back) + (other + 2 * length k.front.pending + (3 * back_left u.stage u.state (length u.pages) + back_reading u.stage + 2 * length k.back.pending))
       ≤ other + 2 * length t.keys.front.pending + (3 * back_left s t.back.state (length t.back.pages) + back_reading s + 2 * length t.keys.back.pending)
 
+  -- what is left after a wait
+  abbrev waited : BackBusStage → Option (List ℕ) → ℕ
+  waited s o = let u = back_step.step_at s (back_step.at s t.back) (back_woken o) in 3 * back_left u.stage u.state (length u.pages) + back_reading u.stage
+
   program_left : (s : BackBusStage) (page : Mapping) (other : ℕ) → IsProgram s → (IsWait (back_asks.ask_at s t.back) → ⊥) → IsPlaced s t.back
       → Holds f d t → Lowers s page other
   unfolding Lowers
@@ -251,9 +239,9 @@ module _ (f : Features) (d : DiskFacts) (t : Negotiation) where
       → BackSees s t.back.state t.front.state t.keys.back → Holds f d t → Lowers s page other
   unfolding Lowers
   lowers_at back.Rest page other e placed sees h =
-      wait_sum _ (3 * back_rest_left t.back.state) (length t.keys.front.pending) (length t.keys.back.pending) other (one_if (has_pending t.keys.back)) (rest_sum t.back t.keys.back (SettledBack t.back.state t.front.state) sees)
+      wait_sum _ (3 * back_rest_left t.back.state) (length t.keys.front.pending) (length t.keys.back.pending) other (one_if (has_pending t.keys.back)) (wait_falls (waited back.Rest) front_state t.keys.back _ (3 * back_rest_left t.back.state) sees (omega arith) (omega arith))
   lowers_at back.Halted page other e placed sees h =
-      wait_sum _ 0 (length t.keys.front.pending) (length t.keys.back.pending) other (one_if (has_pending t.keys.back)) (halted_sum t.back t.keys.back (Unit {0}) sees)
+      wait_sum _ 0 (length t.keys.front.pending) (length t.keys.back.pending) other (one_if (has_pending t.keys.back)) (wait_falls (waited back.Halted) front_state t.keys.back _ 0 sees (omega arith) (omega arith))
   lowers_at back.ReadState page other e placed sees h =
       let reads = subst (λ (r : Option BusState). Reads t.back.state (back_step.acted (back_action t.back.state t.back.unplugged r) (back_step.at back.ReadState t.back))) (sym (state_shown (key_of t.keys.keys front_state) t.front.state h.states.front))
       (acted_reads (back_action t.back.state t.back.unplugged (Some t.front.state)) t.back t.front.state h.back_sound.order placed (acts_at f d t back.ReadState placed e h)) in
@@ -286,18 +274,10 @@ back_move_left f d t page h = by_test (back_asks.says_closing t.back) refl
 
 -- a close lowers nothing
 front_close_left : (t : Negotiation) → 0 + left (record t { front = closed t.front }) ≤ left t
-front_close_left t = by_test (t.front.closing || is_broken t.front.stage)
-  where
-    by_test : (already : Bool) → 0 + left (record t { front = if already then t.front else record t.front { closing = true } }) ≤ left t
-    by_test true = omega arith
-    by_test false = omega arith
+front_close_left t = closed_cases (λ (v : FrontView). 0 + left (record t { front = v }) ≤ left t) t.front (omega arith) (omega arith)
 
 back_close_left : (t : Negotiation) → 0 + left (record t { back = unplugged t.back }) ≤ left t
-back_close_left t = by_test (is_halting t.back.stage)
-  where
-    by_test : (halts : Bool) → 0 + left (record t { back = if halts then t.back else record t.back { unplugged = true } }) ≤ left t
-    by_test true = omega arith
-    by_test false = omega arith
+back_close_left t = unplugged_cases (λ (v : BackView). 0 + left (record t { back = v }) ≤ left t) t.back (omega arith) (omega arith)
 
 lowers_once : (f : Features) (d : DiskFacts) (x : Happening) (t : Negotiation) → Holds f d t → one_if (goes x t) + left (happened x t) ≤ left t
 lowers_once f d (FrontMoves idle port) t h = front_move_left f d t idle port h

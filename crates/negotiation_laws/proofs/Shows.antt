@@ -54,17 +54,13 @@ module _ (n : ℕ) (port : Option ℕ) (terms : FrontTerms) (f : Features) (d : 
   speaks (back.WriteState state.Closing) v placed h = speaks_late n f d texts v.state (h.halting_after refl) h.said.0
   speaks (back.WriteState state.Closed) v placed h = speaks_late n f d texts v.state (h.halting_after refl) h.said.0
   speaks (back.WriteState s) v placed h = absurd placed
-  speaks back.Watch v placed h = init_wait n f d texts v.state placed.0 h.said.0
   speaks back.Rest v placed h = speaks_resting n f d texts v.state v placed (λ e. (h.serving_after e).0) h.said.0 h.said.1
   speaks back.ReadState v placed h = speaks_resting n f d texts v.state v placed (λ e. (h.serving_after e).0) h.said.0 h.said.1
-  speaks (back.ReadKey k) v placed h = init_wait n f d texts v.state placed.0 h.said.0
-  speaks back.MapPage v placed h = init_wait n f d texts v.state placed.0 h.said.0
-  speaks back.Bind v placed h = init_wait n f d texts v.state placed.0 h.said.0
-  speaks (back.PublishFact k) v placed h = init_wait n f d texts v.state placed.0 h.said.0
   speaks back.UnmapOthers v placed h = speaks_late n f d texts v.state (h.halting_after refl) h.said.0
   speaks back.UnmapPage v placed h = speaks_late n f d texts v.state (h.halting_after refl) h.said.0
   speaks back.ClosePort v placed h = speaks_late n f d texts v.state (h.halting_after refl) h.said.0
   speaks back.Halted v placed h = speaks_late n f d texts v.state (h.halting_after refl) h.said.0
+  speaks other v placed h = init_wait n f d texts v.state placed.0 h.said.0
 
 -- a back that goes by the front's terms isn't closed
 served_resting : (own : BusState) → serves back.Rest own ≡ true → state_number own < 6

@@ -1,5 +1,5 @@
 -- What an end has read or said once stays, whatever happens later.
-use Rattle.std.proofs.Common.{◌≡◌, ◌∙◌, ap, sym, subst, subst₂, ℕ, ◌<◌, ◌≤◌, ◌||◌, Bool, true, false, List, [], ◌∷◌, length, refl, arith, le_trans, if◌then◌else◌}
+use Rattle.std.proofs.Common.{◌≡◌, ◌∙◌, ap, sym, subst, subst₂, ℕ, ◌<◌, ◌≤◌, Bool, true, false, List, [], ◌∷◌, length, refl, arith, le_trans, if◌then◌else◌}
 use Rattle.std.specs.Prelude.{Option, None, Some}
 use Rattle.blk_base.specs.declared.parts.Mapping.{Mapping}
 use Rattle.key_directory.specs.Directory.{Directory, key_of, with_key}
@@ -23,13 +23,13 @@ use Rattle.xenbus_state.specs.declared.table.FrontAction.TheVariants as front_ac
 use Rattle.xenbus_state.specs.declared.table.BackAction.{BackAction}
 use Rattle.xenbus_state.specs.declared.table.BackAction.TheVariants as back_act
 use Rattle.xenbus_state.specs.declared.back.BackBusAsk.TheVariants as back_ask
-use Rattle.xenbus_state.specs.FrontView.{FrontView, closed, is_broken}
+use Rattle.xenbus_state.specs.FrontView.{FrontView, closed}
 use Rattle.xenbus_state.specs.FrontAsk as front_asks
 use Rattle.xenbus_state.specs.FrontAsk.{due, ask_at}
 use Rattle.xenbus_state.specs.FrontStep as front_step
 use Rattle.xenbus_state.specs.FrontStep.{at, step_at, acted, fact_step}
 use Rattle.xenbus_state.specs.FrontSound as front_sound
-use Rattle.xenbus_state.specs.BackView.{BackView, is_halting, unplugged}
+use Rattle.xenbus_state.specs.BackView.{BackView, unplugged}
 use Rattle.xenbus_state.specs.BackAsk as back_asks
 use Rattle.xenbus_state.specs.BackStep as back_step
 use Rattle.xenbus_state.specs.BackSound as back_sound
@@ -40,6 +40,7 @@ use Rattle.negotiation_laws.specs.Negotiation.{Negotiation, back_path, front_sta
 use Rattle.negotiation_laws.specs.Happening.{Happening, FrontMoves, BackMoves, FrontCloses, BackCloses, happened, after}
 use Rattle.negotiation_laws.specs.Within.{HavePorts}
 use Rattle.negotiation_laws.specs.Said.{front_texts, back_texts, AreFactsSaid}
+use Rattle.negotiation_laws.proofs.Choices.{closed_cases, unplugged_cases}
 use Rattle.negotiation_laws.proofs.Keys.{front_texts_state, back_texts_state, back_kept}
 use Rattle.negotiation_laws.proofs.Between.{back_own, front_ask_leaves, back_ask_leaves, front_own_rises, back_own_rises}
 use Rattle.negotiation_laws.proofs.Holds.{Holds, front_lawful, due_timely, happening_holds}
@@ -55,12 +56,7 @@ early own s k e low high = let same : state_number own ≡ state_number s = ap s
 
 acted_stays : (act : FrontAction) (v : FrontView) → ReadStays v (acted act (at front.ReadState v))
 acted_stays front_act.Nothing v = record { features = λ e. refl; disk = λ e. refl }
-acted_stays front_act.Publish v = record { features = λ e. refl; disk = λ e. refl }
-acted_stays front_act.Connect v = record { features = λ e. refl; disk = λ e. refl }
-acted_stays front_act.Close v = record { features = λ e. refl; disk = λ e. refl }
-acted_stays front_act.CloseAndConnect v = record { features = λ e. refl; disk = λ e. refl }
-acted_stays front_act.Leave v = record { features = λ e. refl; disk = λ e. refl }
-acted_stays (front_act.Break word) v = record { features = λ e. refl; disk = λ e. refl }
+acted_stays other v = record { features = λ e. refl; disk = λ e. refl }
 
 fact_stays : (k : BackKey) (o : Option ℕ) (v : FrontView) → v.state ≡ state.Initialised → ReadStays v (fact_step k o (at (front.ReadFact k) v))
 fact_stays k None v own = record { features = λ e. refl; disk = λ e. refl }
@@ -99,8 +95,7 @@ record TermsStay (v w : BackView) : Type 0 where
 
 back_acted_stays : (act : BackAction) (v : BackView) → TermsStay v (back_step.acted act (back_step.at back.ReadState v))
 back_acted_stays back_act.Nothing v = record { terms = λ e. refl; grefs = λ e. refl }
-back_acted_stays back_act.Connect v = record { terms = λ e. refl; grefs = λ e. refl }
-back_acted_stays (back_act.Halt reason) v = record { terms = λ e. refl; grefs = λ e. refl }
+back_acted_stays other v = record { terms = λ e. refl; grefs = λ e. refl }
 
 back_woken_stays : (s : BackBusStage) (o : Option (List ℕ)) (v : BackView) → TermsStay v (back_step.step_at s (back_step.at s v) (back_woken o))
 back_woken_stays back.Rest None v = record { terms = λ e. refl; grefs = λ e. refl }
@@ -233,20 +228,14 @@ module _ (f : Features) (d : DiskFacts) where
           }
 
   front_close_stays : (t : Negotiation) → Stays f d t (record t { front = closed t.front })
-  front_close_stays t = by_test (t.front.closing || is_broken t.front.stage)
-    where
-      by_test : (already : Bool) → Stays f d t (record t { front = if already then t.front else record t.front { closing = true } })
-      by_test true = still t
-      by_test false =
-          record { front_rises = omega arith; back_rises = omega arith; features = λ e. refl; disk = λ e. refl; said = λ e. refl; terms = λ e. refl; grefs = λ e. refl; facts = λ h. h }
+  front_close_stays t =
+      closed_cases (λ (v : FrontView). Stays f d t (record t { front = v })) t.front (still t)
+      (record { front_rises = omega arith; back_rises = omega arith; features = λ e. refl; disk = λ e. refl; said = λ e. refl; terms = λ e. refl; grefs = λ e. refl; facts = λ h. h })
 
   back_close_stays : (t : Negotiation) → Stays f d t (record t { back = unplugged t.back })
-  back_close_stays t = by_test (is_halting t.back.stage)
-    where
-      by_test : (halts : Bool) → Stays f d t (record t { back = if halts then t.back else record t.back { unplugged = true } })
-      by_test true = still t
-      by_test false =
-          record { front_rises = omega arith; back_rises = omega arith; features = λ e. refl; disk = λ e. refl; said = λ e. refl; terms = λ e. refl; grefs = λ e. refl; facts = λ h. h }
+  back_close_stays t =
+      unplugged_cases (λ (v : BackView). Stays f d t (record t { back = v })) t.back (still t)
+      (record { front_rises = omega arith; back_rises = omega arith; features = λ e. refl; disk = λ e. refl; said = λ e. refl; terms = λ e. refl; grefs = λ e. refl; facts = λ h. h })
 
   stays_once : (x : Happening) (t : Negotiation) → Holds f d t → Stays f d t (happened x t)
   stays_once (FrontMoves idle port) t h = front_move_stays t idle port h

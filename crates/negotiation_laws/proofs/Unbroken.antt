@@ -1,5 +1,5 @@
 -- No honest end breaks the negotiation.
-use Rattle.std.proofs.Common.{◌≡◌, ◌∙◌, ap, sym, subst, ℕ, ◌+◌, ◌<◌, ◌≤◌, ◌==◌, ◌&&◌, ◌||◌, nat_lt, Bool, true, false, true≢false, List, [], ◌∷◌, refl, arith, unwrap_or, if◌then◌else◌}
+use Rattle.std.proofs.Common.{◌≡◌, ◌∙◌, ap, sym, subst, ℕ, ◌+◌, ◌<◌, ◌≤◌, ◌==◌, ◌&&◌, nat_lt, Bool, true, false, true≢false, List, [], ◌∷◌, refl, arith, unwrap_or, if◌then◌else◌}
 use Rattle.std.specs.Prelude.{Option, None, Some, is_some}
 use Rattle.blk_base.specs.declared.parts.Mapping.{Mapping}
 use Rattle.key_directory.specs.Directory.{key_of}
@@ -39,11 +39,12 @@ use Rattle.xenbus_state.specs.BackStep as back_step
 use Rattle.xenbus_state.specs.BackSound.{IsPlaced}
 use Rattle.xenbus_state.proofs.Early.{resting_early}
 use Rattle.negotiation_laws.specs.Negotiation.{Negotiation, front_path, back_path, front_state, back_state, front_answered, back_answered, front_woken}
-use Rattle.negotiation_laws.specs.Happening.{Happening, FrontMoves, BackMoves, FrontCloses, BackCloses, IsServed, AreServed, happened, after}
+use Rattle.negotiation_laws.specs.Happening.{Happening, FrontMoves, FrontCloses, IsServed, AreServed, happened, after}
 use Rattle.negotiation_laws.specs.Within.{HavePorts}
 use Rattle.negotiation_laws.specs.Run.{now, begins}
 use Rattle.negotiation_laws.specs.Said.{front_texts, back_texts}
 use Rattle.negotiation_laws.specs.Laws.{gone_halt, BackHaltsAsTheFrontIsGone, FrontBreaksOnlyUnserved, FrontIsUnbroken}
+use Rattle.negotiation_laws.proofs.Choices.{closed_cases}
 use Rattle.negotiation_laws.proofs.Shown.{state_shown}
 use Rattle.negotiation_laws.proofs.FrontActs as front_acts
 use Rattle.negotiation_laws.proofs.BackActs as back_acts
@@ -78,9 +79,8 @@ record HaltsGone (v : BackView) (fs : BusState) (reason : BackHalt) : Type 0 whe
 
 acted_halts : (act : BackAction) (v : BackView) (fs : BusState) (reason : BackHalt) → state_number v.state < 6 → back_acts.ActsFor act v.state fs v.unplugged
     → back_step.action_halt act ≡ Some reason → HaltsGone v fs reason
-acted_halts back_act.Nothing v fs reason low acts e = absurd (some_other reason e)
-acted_halts back_act.Connect v fs reason low acts e = absurd (some_other reason e)
 acted_halts (back_act.Halt why) v fs reason low acts e = record { late = acts.0; before = low; same = some_same why reason e ∙ acts.1 }
+acted_halts other v fs reason low acts e = absurd (some_other reason e)
 
 module _ (f : Features) (d : DiskFacts) (t : Negotiation) where
   state_halts : (reason : BackHalt) → state_number t.back.state < 6
@@ -154,7 +154,6 @@ closing_quiet false = refl
 
 written_quiet : (s : BusState) → tells_broken (front_step.written_news s) ≡ false
 written_quiet state.Connected = refl
-written_quiet state.Closed = refl
 written_quiet s = refl
 
 record Breaks (v : FrontView) (idle : Bool) (b : BusState) : Type 0 where
@@ -170,12 +169,10 @@ acted_breaks (front_act.Break w) v idle b word acts e =
     word_of : FrontNews → ℕ
     word_of (news.Broken m) = m
     word_of other = 0
-acted_breaks front_act.Close v idle b word acts e = absurd (untold (front_step.closing_news v.closing) word (closing_quiet v.closing) e)
-acted_breaks front_act.CloseAndConnect v idle b word acts e = absurd (untold (front_step.closing_news v.closing) word (closing_quiet v.closing) e)
-acted_breaks front_act.Leave v idle b word acts e = absurd (untold (front_step.closing_news v.closing) word (closing_quiet v.closing) e)
 acted_breaks front_act.Nothing v idle b word acts e = absurd (untold None word refl e)
 acted_breaks front_act.Publish v idle b word acts e = absurd (untold None word refl e)
 acted_breaks front_act.Connect v idle b word acts e = absurd (untold None word refl e)
+acted_breaks other v idle b word acts e = absurd (untold (front_step.closing_news v.closing) word (closing_quiet v.closing) e)
 
 module _ (f : Features) (d : DiskFacts) (t : Negotiation) where
   -- a key that the front reads is read: it would be broken while the back is closed, long before it closes itself
@@ -242,25 +239,15 @@ breaks_only_unserved r idle port word e =
 -- a front that is served is never broken
 acted_unbroken : (act : FrontAction) (v : FrontView) (idle : Bool) (b : BusState) → front_acts.ActsFor act v.state v.closing v.gone idle b
     → (Breaks v idle b → ⊥) → is_broken (front_step.acted act (front_step.at front.ReadState v)).stage ≡ false
-acted_unbroken front_act.Nothing v idle b acts served = refl
-acted_unbroken front_act.Publish v idle b acts served = refl
-acted_unbroken front_act.Connect v idle b acts served = refl
-acted_unbroken front_act.Close v idle b acts served = refl
-acted_unbroken front_act.CloseAndConnect v idle b acts served = refl
-acted_unbroken front_act.Leave v idle b acts served = refl
 acted_unbroken (front_act.Break word) v idle b acts served = absurd (served (record { busy = acts.2; gone = acts.0 }))
+acted_unbroken other v idle b acts served = refl
 
 feature_unbroken : (k : BackKey) (m : ℕ) (v : FrontView) → is_broken (front_step.feature_step k (Some m) v).stage ≡ false
 feature_unbroken back_key.FeatureBarrier m v = refl
-feature_unbroken back_key.FeatureFlushCache m v = refl
-feature_unbroken back_key.FeatureDiscard m v = refl
-feature_unbroken back_key.FeaturePersistent m v = refl
-feature_unbroken back_key.FeatureMaxIndirectSegments m v = refl
 feature_unbroken k m v = refl
 
 fact_unbroken : (k : BackKey) (m : ℕ) (v : FrontView) → is_broken (front_step.fact_step k (Some m) v).stage ≡ false
 fact_unbroken back_key.Sectors m v = refl
-fact_unbroken back_key.SectorSize m v = refl
 fact_unbroken k m v = refl
 
 choice_unbroken : (more : Bool) (s t : FrontBusStage) → is_broken s ≡ false → is_broken t ≡ false → is_broken (if more then s else t) ≡ false
@@ -310,7 +297,6 @@ module _ (f : Features) (d : DiskFacts) (t : Negotiation) where
       → FrontHolds s t.front (state_number t.back.state) f d (front_texts t.keys.keys) → (t.front.state ≡ state.Closing → idle ≡ true) → is_broken s ≡ false
       → Holds f d t
       → is_broken (front_step.step_at s (front_step.at s t.front) idle (front_answered (front_asks.ask_at s t.front) port t.keys)).stage ≡ false
-  unbroken_at front.Start idle port timely held served e h = refl
   unbroken_at front.Rest idle port timely held served e h = woken_unbroken front.Rest (next_watch t.keys.front) t.front idle refl
   unbroken_at front.ReadState idle port timely held served e h = state_unbroken idle timely served h
   unbroken_at (front.ReadFeature k) idle port timely held served e h =
@@ -318,7 +304,6 @@ module _ (f : Features) (d : DiskFacts) (t : Negotiation) where
       read_unbroken k (count_read (key_of t.keys.keys (back_path k))) timely h (feature_holds (state_number t.back.state) f d k t.front t.keys.keys shows.indirect shows.order (shows.features held.stage_after) held)
   unbroken_at (front.RingWord word) idle port timely held served e h = choice_unbroken (word == 15) (front.Grant 0) (front.RingWord (word + 1)) refl refl
   unbroken_at (front.Grant page) idle port timely held served e h = choice_unbroken (nat_lt (page + 1) (pages_of t.front)) (front.Grant (page + 1)) front.NewPort refl refl
-  unbroken_at front.NewPort idle port timely held served e h = refl
   unbroken_at (front.Publish k) idle port timely held served e h = published_unbroken (next_published (ring_order t.front) k)
   unbroken_at (front.ReadFact k) idle port timely held served e h =
       let shows = back_shows f d t h in
@@ -327,9 +312,9 @@ module _ (f : Features) (d : DiskFacts) (t : Negotiation) where
   unbroken_at (front.EndGrant page) idle port timely held served e h =
       choice_unbroken (nat_lt (page + 1) (pages_of t.front)) (front.EndGrant (page + 1)) front.EndOtherGrants refl refl
   unbroken_at front.EndOtherGrants idle port timely held served e h = others_unbroken t.front.port
-  unbroken_at front.ClosePort idle port timely held served e h = refl
   unbroken_at front.Closed idle port timely held served e h = woken_unbroken front.Closed (next_watch t.keys.front) t.front idle refl
   unbroken_at (front.Broken word) idle port timely held served e h = absurd (true≢false e)
+  unbroken_at other idle port timely held served e h = refl
 
 due_unbroken : (s : FrontBusStage) (v : FrontView) (idle : Bool) → is_broken s ≡ false → is_broken (due_at s v idle) ≡ false
 due_unbroken front.Rest v idle e = choice_unbroken (v.closing && idle) (closing_stage v.state v) front.Rest (closes v.state) refl
@@ -345,11 +330,7 @@ due_unbroken front.Rest v idle e = choice_unbroken (v.closing && idle) (closing_
 due_unbroken s v idle e = e
 
 closed_unbroken : (v : FrontView) → is_broken v.stage ≡ false → is_broken (closed v).stage ≡ false
-closed_unbroken v e = by_test (v.closing || is_broken v.stage)
-  where
-    by_test : (already : Bool) → is_broken (if already then v else record v { closing = true }).stage ≡ false
-    by_test true = e
-    by_test false = e
+closed_unbroken v e = closed_cases (λ (w : FrontView). is_broken w.stage ≡ false) v e e
 
 unbroken_once : (f : Features) (d : DiskFacts) (x : Happening) (t : Negotiation) → IsServed x t → is_broken t.front.stage ≡ false → Holds f d t
     → is_broken (happened x t).front.stage ≡ false
@@ -357,9 +338,8 @@ unbroken_once f d (FrontMoves idle port) t served e h =
     let s = due t.front idle in
     let held = due_holds (state_number t.back.state) f d t.front.stage t.front idle (front_texts t.keys.keys) h.front in
     unbroken_at f d t s idle port (due_timely t.front.stage t.front idle h.front_sound.timely) held served (due_unbroken t.front.stage t.front idle e) h
-unbroken_once f d (BackMoves page) t served e h = e
 unbroken_once f d FrontCloses t served e h = closed_unbroken t.front e
-unbroken_once f d BackCloses t served e h = e
+unbroken_once f d other t served e h = e
 
 all_unbroken : (f : Features) (d : DiskFacts) (xs : List Happening) (t : Negotiation) → HavePorts xs → AreServed xs t → is_broken t.front.stage ≡ false
     → Holds f d t → is_broken (after xs t).front.stage ≡ false
