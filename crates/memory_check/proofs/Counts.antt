@@ -44,30 +44,24 @@ count_more {X} p xs x =
 
 pub count_filter : {X : Type 0} (p q : X → Bool) (xs : List X) → count_by (λ (x : X). p x && q x) xs ≡ count_by p (filter q xs)
 count_filter p q [] = refl
-count_filter {X} p q (x ∷ xs) = by_tests (p x) (q x) refl refl (count_filter p q xs)
+count_filter {X} p q (x ∷ xs) = count_cons {X = X} (λ (y : X). p y && q y) x xs ∙ (ap (λ (n : ℕ). cond (p x && q x) 1 0 + n) (count_filter p q xs) ∙ by_tests (p x) (q x) refl (filter q xs))
   where
-    by_tests : (a b : Bool) → p x ≡ a → q x ≡ b → count_by (λ (y : X). p y && q y) xs ≡ count_by p (filter q xs) → count_by (λ (y : X). p y && q y) (x ∷ xs) ≡ count_by p (filter q (x ∷ xs))
-    by_tests a true s t rest =
-        let one = sum_by-cons (λ (y : X). cond (p y && q y) 1 0) x xs in
-        let other = sum_by-cons (λ (y : X). cond (p y) 1 0) x (filter q xs) in
-        let here : ◌≡◌ {A = ℕ} (cond (p x && q x) 1 0) (cond (p x) 1 0) = rw t (both (p x)) in
-        let kept : filter q (x ∷ xs) ≡ x ∷ filter q xs = rw t refl in
-        let counted : count_by p (filter q (x ∷ xs)) ≡ count_by p (x ∷ filter q xs) = ap (λ (ys : List X). count_by p ys) kept in
-        omega arith
-      where
-        both : (c : Bool) → ◌≡◌ {A = ℕ} (cond (c && true) 1 0) (cond c 1 0)
-        both true = refl
-        both false = refl
-    by_tests a false s t rest =
-        let one = sum_by-cons (λ (y : X). cond (p y && q y) 1 0) x xs in
-        let none : ◌≡◌ {A = ℕ} (cond (p x && q x) 1 0) 0 = rw t (neither (p x)) in
-        let kept : filter q (x ∷ xs) ≡ filter q xs = rw t refl in
-        let counted : count_by p (filter q (x ∷ xs)) ≡ count_by p (filter q xs) = ap (λ (ys : List X). count_by p ys) kept in
-        omega arith
-      where
-        neither : (c : Bool) → ◌≡◌ {A = ℕ} (cond (c && false) 1 0) 0
-        neither true = refl
-        neither false = refl
+    by_tests : (a b : Bool) → p x ≡ a → (ys : List X) → cond (a && b) 1 0 + count_by p ys ≡ count_by p (cond b (x ∷ ys) ys)
+    by_tests true true e ys =
+        let one = count_cons p x ys in
+        let here : ◌≡◌ {A = ℕ} (cond (p x) 1 0) 1 = rw e refl in
+        let all : 1 + count_by p ys ≡ count_by p (x ∷ ys) = omega arith in all
+    by_tests false true e ys =
+        let one = count_cons p x ys in
+        let here : ◌≡◌ {A = ℕ} (cond (p x) 1 0) 0 = rw e refl in
+        let all : 0 + count_by p ys ≡ count_by p (x ∷ ys) = omega arith in all
+    by_tests true false e ys = let all : 0 + count_by p ys ≡ count_by p ys = omega arith in all
+    by_tests false false e ys = let all : 0 + count_by p ys ≡ count_by p ys = omega arith in all
+
+-- nothing is found of none
+none_either : {X : Type 0} (b : Bool) → ◌≡◌ {A = Option X} None (cond b None None)
+none_either true = refl
+none_either false = refl
 
 -- ---- a mapping that is put in
 pub apart_inserted : (k : ℕ) (v : Standing) (es : List (ℕ × Standing)) → v.number ≡ k → standing_at es k ≡ None → AreApart es → AreApart (insert_entry nat_cmp es k v)
@@ -107,11 +101,7 @@ apart_removed k (e ∷ es) apart = by_test (is_at (nat_cmp k) e.0) refl (apart_r
 
 -- the mapping of each number after one was taken out
 pub found_after_removal : (k n : ℕ) (es : List (ℕ × Standing)) → AreApart es → standing_at (remove_entry (is_at (nat_cmp k)) es) n ≡ cond (k == n) None (standing_at es n)
-found_after_removal k n [] apart = none_by (k == n)
-  where
-    none_by : (b : Bool) → ◌≡◌ {A = Option Standing} None (cond b None None)
-    none_by true = refl
-    none_by false = refl
+found_after_removal k n [] apart = none_either (k == n)
 found_after_removal k n (e ∷ es) apart = by_tests (is_at (nat_cmp k) e.0) (is_at (nat_cmp n) e.0) (k == n) refl refl refl (found_after_removal k n es apart.2)
   where
     by_tests : (a b c : Bool) → is_at (nat_cmp k) e.0 ≡ a → is_at (nat_cmp n) e.0 ≡ b → (k == n) ≡ c → standing_at (remove_entry (is_at (nat_cmp k)) es) n ≡ cond (k == n) None (standing_at es n) → standing_at (remove_entry (is_at (nat_cmp k)) (e ∷ es)) n ≡ cond (k == n) None (standing_at (e ∷ es) n)
@@ -133,16 +123,22 @@ found_after_removal k n (e ∷ es) apart = by_tests (is_at (nat_cmp k) e.0) (is_
     by_tests false true false s t u rest = rw (s, u, t) refl
     by_tests false false false s t u rest = rw (s, u, t) (rest ∙ rw u refl)
 
-and_not : (b c : Bool) → c ≡ false → (b && not c) ≡ b
-and_not true c e = rw e refl
-and_not false c e = refl
-
-and_yes : (b c : Bool) → c ≡ true → (b && not c) ≡ false
-and_yes true c e = rw e refl
-and_yes false c e = refl
-
 turned : (k n : ℕ) (b : Bool) → (n == k) ≡ b → (k == n) ≡ b
 turned k n b e = grind (arith, nat_tests)
+
+-- a mapping of another number is counted as without the test, and one of the number is not
+count_but : (p : Standing → Bool) (k : ℕ) (s : Standing) (ss : List Standing) (same : Bool) → (k == s.number) ≡ same
+    → count_by (λ (x : Standing). p x && not (k == x.number)) (s ∷ ss) ≡ cond same 0 (cond (p s) 1 0) + count_by (λ (x : Standing). p x && not (k == x.number)) ss
+count_but p k s ss same is =
+    let one = count_cons (λ (x : Standing). p x && not (k == x.number)) s ss in
+    let here : ◌≡◌ {A = ℕ} (cond (p s && not (k == s.number)) 1 0) (cond same 0 (cond (p s) 1 0)) = rw is (by_tests (p s) same) in
+    omega arith
+  where
+    by_tests : (a b : Bool) → ◌≡◌ {A = ℕ} (cond (a && not b) 1 0) (cond b 0 (cond a 1 0))
+    by_tests true true = refl
+    by_tests false true = refl
+    by_tests true false = refl
+    by_tests false false = refl
 
 -- no mapping but those of another number are counted where none of the number stands
 pub count_absent : (p : Standing → Bool) (k : ℕ) (es : List (ℕ × Standing)) → AreApart es → standing_at es k ≡ None → count_by (λ (s : Standing). p s && not (k == s.number)) (values_of es) ≡ count_by p (values_of es)
@@ -152,11 +148,8 @@ count_absent p k (e ∷ es) apart none = by_test (is_at (nat_cmp k) e.0) refl (c
     by_test : (b : Bool) → is_at (nat_cmp k) e.0 ≡ b → (standing_at es k ≡ None → count_by (λ (s : Standing). p s && not (k == s.number)) (values_of es) ≡ count_by p (values_of es)) → count_by (λ (s : Standing). p s && not (k == s.number)) (values_of (e ∷ es)) ≡ count_by p (values_of (e ∷ es))
     by_test true t rest = absurd (let h : Some e.1 ≡ None = rw t at none in cc)
     by_test false t rest =
-        let later : standing_at es k ≡ None = rw t at none in
-        let more = rest later in
-        let far : (k == e.1.number) ≡ false = rw apart.0 (turned k e.0 false (other_at k e.0 t)) in
-        let here : ◌≡◌ {A = ℕ} (cond (p e.1 && not (k == e.1.number)) 1 0) (cond (p e.1) 1 0) = ap (λ (b : Bool). cond {A = ℕ} b 1 0) (and_not (p e.1) (k == e.1.number) far) in
-        let one = count_cons (λ (s : Standing). p s && not (k == s.number)) e.1 (values_of es) in
+        let more = rest (rw t at none) in
+        let one = count_but p k e.1 (values_of es) false (rw apart.0 (turned k e.0 false (other_at k e.0 t))) in
         let other = count_cons p e.1 (values_of es) in
         omega arith
 
@@ -167,16 +160,11 @@ count_removed p k (e ∷ es) apart = by_test (is_at (nat_cmp k) e.0) refl (count
     by_test : (b : Bool) → is_at (nat_cmp k) e.0 ≡ b → count_by p (values_of (remove_entry (is_at (nat_cmp k)) es)) ≡ count_by (λ (s : Standing). p s && not (k == s.number)) (values_of es) → count_by p (values_of (remove_entry (is_at (nat_cmp k)) (e ∷ es))) ≡ count_by (λ (s : Standing). p s && not (k == s.number)) (values_of (e ∷ es))
     by_test true t rest =
         let same : e.0 ≡ k = same_at k e.0 t in
-        let gone : standing_at es k ≡ None = subst (λ (m : ℕ). standing_at es m ≡ None) same apart.1 in
-        let left = count_absent p k es apart.2 gone in
-        let near : (k == e.1.number) ≡ true = rw (apart.0, same) (grind (arith, nat_tests)) in
-        let here : ◌≡◌ {A = ℕ} (cond (p e.1 && not (k == e.1.number)) 1 0) 0 = ap (λ (b : Bool). cond {A = ℕ} b 1 0) (and_yes (p e.1) (k == e.1.number) near) in
-        let one = count_cons (λ (s : Standing). p s && not (k == s.number)) e.1 (values_of es) in
+        let left = count_absent p k es apart.2 (subst (λ (m : ℕ). standing_at es m ≡ None) same apart.1) in
+        let one = count_but p k e.1 (values_of es) true (rw (apart.0, same) (grind (arith, nat_tests))) in
         rw t (omega arith)
     by_test false t rest =
-        let far : (k == e.1.number) ≡ false = rw apart.0 (turned k e.0 false (other_at k e.0 t)) in
-        let here : ◌≡◌ {A = ℕ} (cond (p e.1 && not (k == e.1.number)) 1 0) (cond (p e.1) 1 0) = ap (λ (b : Bool). cond {A = ℕ} b 1 0) (and_not (p e.1) (k == e.1.number) far) in
-        let one = count_cons (λ (s : Standing). p s && not (k == s.number)) e.1 (values_of es) in
+        let one = count_but p k e.1 (values_of es) false (rw apart.0 (turned k e.0 false (other_at k e.0 t))) in
         let other = count_cons p e.1 (values_of (remove_entry (is_at (nat_cmp k)) es)) in
         rw t (omega arith)
 
@@ -206,11 +194,7 @@ number_of_found n (x ∷ standing) s is = by_test (x.number == n) refl (number_o
     by_test false t rest = rest (rw t at is)
 
 pub numbered_filter : (k n : ℕ) (standing : List Standing) → numbered n (filter (λ (s : Standing). not (k == s.number)) standing) ≡ cond (k == n) None (numbered n standing)
-numbered_filter k n [] = none_by (k == n)
-  where
-    none_by : (b : Bool) → ◌≡◌ {A = Option Standing} None (cond b None None)
-    none_by true = refl
-    none_by false = refl
+numbered_filter k n [] = none_either (k == n)
 numbered_filter k n (s ∷ standing) = by_tests (k == s.number) (s.number == n) (k == n) refl refl refl (numbered_filter k n standing)
   where
     by_tests : (a b c : Bool) → (k == s.number) ≡ a → (s.number == n) ≡ b → (k == n) ≡ c → numbered n (filter (λ (x : Standing). not (k == x.number)) standing) ≡ cond (k == n) None (numbered n standing) → numbered n (filter (λ (x : Standing). not (k == x.number)) (s ∷ standing)) ≡ cond (k == n) None (numbered n (s ∷ standing))
