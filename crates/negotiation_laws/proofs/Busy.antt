@@ -33,7 +33,7 @@ use Rattle.negotiation_laws.specs.Happening.{Happening, FrontMoves, BackMoves, F
 use Rattle.negotiation_laws.specs.Within.{HavePorts}
 use Rattle.negotiation_laws.specs.Run.{now, begins}
 use Rattle.negotiation_laws.specs.Laws.{IsAtRest, IsBusy, AreBusy, BusyFrontsConnect}
-use Rattle.negotiation_laws.proofs.Choices.{closed_cases, unplugged_cases}
+use Rattle.negotiation_laws.proofs.Choices.{closed_cases, either, unplugged_cases}
 use Rattle.negotiation_laws.proofs.Shown.{state_shown}
 use Rattle.negotiation_laws.proofs.Watching.{sees_so, sees_kept, sees_fired, back_key_apart}
 use Rattle.negotiation_laws.proofs.Between.{back_own}
@@ -153,10 +153,6 @@ module _ (b : BusState) where
   fact_hears k None v w = tt
   fact_hears k (Some m) v w = fact_next (next_fact k) v.state w
 
-  either_hears : (last : Bool) (s t : FrontBusStage) (own : BusState) (w : Watches) → HeardAt s own b w → HeardAt t own b w → HeardAt (if last then s else t) own b w
-  either_hears true s t own w g h = g
-  either_hears false s t own w g h = h
-
   publish_hears : (next : Option FrontKey) (own : BusState) (w : Watches) → HeardAt (after_published next) own b w
   publish_hears (Some k) own w = tt
   publish_hears None own w = tt
@@ -196,12 +192,12 @@ module _ (b : BusState) where
   hears_at stage.Rest v port d shown rests writes sees h = woken_hears v d.front (FrontHeard stage.Rest v.closing v.state v.gone b) sees h
   hears_at stage.ReadState v port d shown rests writes sees h = state_hears v (key_of d.keys back_state) d.front shown rests sees
   hears_at (stage.ReadFeature k) v port d shown rests writes sees h = feature_hears k (count_read (key_of d.keys (back_path k))) (at (stage.ReadFeature k) v) d.front
-  hears_at (stage.RingWord word) v port d shown rests writes sees h = either_hears (word == 15) (stage.Grant 0) (stage.RingWord (word + 1)) v.state d.front tt tt
-  hears_at (stage.Grant page) v port d shown rests writes sees h = either_hears (nat_lt (page + 1) (pages_of v)) (stage.Grant (page + 1)) stage.NewPort v.state d.front tt tt
+  hears_at (stage.RingWord word) v port d shown rests writes sees h = either (λ (one : FrontBusStage). HeardAt one v.state b d.front) (word == 15) (stage.Grant 0) (stage.RingWord (word + 1)) tt tt
+  hears_at (stage.Grant page) v port d shown rests writes sees h = either (λ (one : FrontBusStage). HeardAt one v.state b d.front) (nat_lt (page + 1) (pages_of v)) (stage.Grant (page + 1)) stage.NewPort tt tt
   hears_at (stage.Publish k) v port d shown rests writes sees h = publish_hears (next_published (ring_order v) k) v.state _
   hears_at (stage.ReadFact k) v port d shown rests writes sees h = fact_hears k (fact_read k (key_of d.keys (back_path k))) (at (stage.ReadFact k) v) d.front
   hears_at (stage.WriteState s) v port d shown rests writes sees h = written_hears s v d.front writes sees
-  hears_at (stage.EndGrant page) v port d shown rests writes sees h = either_hears (nat_lt (page + 1) (pages_of v)) (stage.EndGrant (page + 1)) stage.EndOtherGrants v.state d.front tt tt
+  hears_at (stage.EndGrant page) v port d shown rests writes sees h = either (λ (one : FrontBusStage). HeardAt one v.state b d.front) (nat_lt (page + 1) (pages_of v)) (stage.EndGrant (page + 1)) stage.EndOtherGrants tt tt
   hears_at stage.EndOtherGrants v port d shown rests writes sees h = others_hear v.port v.state d.front
   hears_at stage.Closed v port d shown rests writes sees h = closed_hears (next_watch d.front) v _
   hears_at (stage.Broken word) v port d shown rests writes sees h = broken_hears word (next_watch d.front) v _

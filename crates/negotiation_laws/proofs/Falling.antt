@@ -36,6 +36,7 @@ use Rattle.xenbus_state.specs.declared.offer.DiskFacts.{DiskFacts}
 use Rattle.negotiation_laws.specs.Negotiation.{front_moved}
 use Rattle.negotiation_laws.specs.Happening.{FrontMoves}
 use Rattle.negotiation_laws.specs.Said.{front_texts}
+use Rattle.negotiation_laws.proofs.Choices.{due_cases}
 use Rattle.negotiation_laws.proofs.Shown.{state_shown}
 use Rattle.negotiation_laws.proofs.FrontSteps.{due_holds}
 use Rattle.negotiation_laws.proofs.FrontSights.{due_sees}
@@ -162,26 +163,15 @@ due_falls s v idle honest timely = omega arith
 -- what is at hand is low
 due_low : (s : FrontBusStage) (v : FrontView) (idle : Bool) (texts : FrontKey → Option (List ℕ)) → front_sound.IsPlaced s v
     → FrontSaid s v.state v.port (terms_of v) texts → ring_order v ≤ 4 → IsLow (due_at s v idle)
-due_low (front.RingWord word) v idle texts placed said few = placed
-due_low (front.Grant page) v idle texts placed said few = (let high = few_pages (ring_order v) few in omega arith)
-due_low (front.EndGrant page) v idle texts placed said few = (let high = few_pages (ring_order v) few in omega arith)
-due_low (front.Publish (key.RingRefOf page)) v idle texts placed said few = (let high = few_pages (ring_order v) few in let low = said.1.1 in omega arith)
-due_low (front.Publish k) v idle texts placed said few = tt
-due_low front.Rest v idle texts placed said few = by_test (v.closing && idle)
+due_low s v idle texts placed said few = due_cases IsLow s v idle (begun s placed said) tt (omega arith) tt
   where
-    leaves : (gone : Bool) (port : Option ℕ) → IsLow (leaving gone port)
-    leaves false port = tt
-    leaves true (Some port) = omega arith
-    leaves true None = tt
-
-    closes : (own : BusState) → IsLow (closing_stage own v)
-    closes state.Closing = leaves v.gone v.port
-    closes own = tt
-
-    by_test : (begun : Bool) → IsLow (if begun then closing_stage v.state v else front.Rest)
-    by_test true = closes v.state
-    by_test false = tt
-due_low s v idle texts placed said few = tt
+    begun : (s : FrontBusStage) → front_sound.IsPlaced s v → FrontSaid s v.state v.port (terms_of v) texts → IsLow s
+    begun (front.RingWord word) placed said = placed
+    begun (front.Grant page) placed said = (let high = few_pages (ring_order v) few in omega arith)
+    begun (front.EndGrant page) placed said = (let high = few_pages (ring_order v) few in omega arith)
+    begun (front.Publish (key.RingRefOf page)) placed said = (let high = few_pages (ring_order v) few in let low = said.1.1 in omega arith)
+    begun (front.Publish k) placed said = tt
+    begun s placed said = tt
 
 -- watches that are pending
 pub sees_same : (path other : List ℕ) (w : Watches) (A : Type 0) → is_at_or_under path other ≡ false → Sees path w A → length (fired w other).pending ≡ length w.pending
@@ -332,21 +322,7 @@ module _ (f : Features) (d : DiskFacts) (t : Negotiation) where
   lowers_at s idle port other low timely writes begun reading sees h = program_left s idle port other tt (λ w. w) low timely writes begun h
 
 due_reading : (s : FrontBusStage) (v : FrontView) (idle : Bool) → front_reading (due_at s v idle) ≤ front_reading s
-due_reading front.Rest v idle = by_test (v.closing && idle)
-  where
-    leaves : (gone : Bool) (port : Option ℕ) → front_reading (leaving gone port) ≤ 0
-    leaves false port = omega arith
-    leaves true (Some port) = omega arith
-    leaves true None = omega arith
-
-    closes : (own : BusState) → front_reading (closing_stage own v) ≤ 0
-    closes state.Closing = leaves v.gone v.port
-    closes own = omega arith
-
-    by_test : (begun : Bool) → front_reading (if begun then closing_stage v.state v else front.Rest) ≤ 0
-    by_test true = closes v.state
-    by_test false = omega arith
-due_reading s v idle = omega arith
+due_reading s v idle = due_cases (λ (d : FrontBusStage). front_reading d ≤ front_reading s) s v idle (omega arith) (omega arith) (omega arith) (omega arith)
 
 -- a move of the front
 pub front_move_left : (f : Features) (d : DiskFacts) (t : Negotiation) (idle : Bool) (port : ℕ) → Holds f d t

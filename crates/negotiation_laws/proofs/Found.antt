@@ -1,5 +1,5 @@
 -- The laws on the directory and on what each end reads of it.
-use Rattle.std.proofs.Common.{◌≡◌, ◌∙◌, ap, sym, subst, ℕ, ◌^◌, ◌<◌, ◌≤◌, ◌==◌, Bool, true, false, List, [], ◌∷◌, refl, arith, if◌then◌else◌, inl, inr}
+use Rattle.std.proofs.Common.{◌≡◌, ◌∙◌, ap, sym, subst, ℕ, ◌^◌, ◌<◌, ◌≤◌, ◌==◌, Bool, true, false, List, [], ◌∷◌, refl, arith, inl, inr}
 use Rattle.std.specs.Prelude.{Option, IsSome}
 use Rattle.std.proofs.lemmas.Bool.Decides.{nat_tests}
 use Rattle.blk_base.specs.declared.parts.Mapping.{Mapping}
@@ -32,6 +32,7 @@ use Rattle.negotiation_laws.specs.Negotiation.{Negotiation}
 use Rattle.negotiation_laws.specs.Run.{NegotiationRun, now}
 use Rattle.negotiation_laws.specs.Laws.{AreStatesSaid, TermsAreSaid, FeaturesAreSaid, FactsAreSaid, grefs_of, BackReadsTheFront, FrontReadsTheBack, MapsByTheTerms, GoesByTheTerms, GoesByTheOffer, GoesByTheDisk, KeepsTheOffer, IsConnectedAfter, BackConnectsAfter}
 use Rattle.negotiation_laws.specs.Said.{front_texts, back_texts, BackSays, AreTermsSaid, AreFeaturesSaid, AreFactsSaid, IsToldBy}
+use Rattle.negotiation_laws.proofs.Choices.{either}
 use Rattle.negotiation_laws.proofs.FrontSteps.{due_holds}
 use Rattle.negotiation_laws.proofs.Holds.{Holds, holds, back_shows, front_shows, due_timely}
 use Rattle.negotiation_laws.proofs.Stays.{stays}
@@ -143,11 +144,8 @@ module _ (f : Features) (d : DiskFacts) (t : Negotiation) where
   key_asked s placed held h = tt
 
   key_asked_now : Holds f d t → KeyAsked (back_asks.ask_of t.back) (front_texts t.keys.keys) (terms_of t.front)
-  key_asked_now h = by_test (back_asks.says_closing t.back)
-    where
-      by_test : (says : Bool) → KeyAsked (if says then back_ask.SetState state.Closing else back_asks.ask_at t.back.stage t.back) (front_texts t.keys.keys) (terms_of t.front)
-      by_test true = tt
-      by_test false = key_asked t.back.stage h.back_sound.placed h.back h
+  key_asked_now h =
+      either (λ (a : BackBusAsk). KeyAsked a (front_texts t.keys.keys) (terms_of t.front)) (back_asks.says_closing t.back) (back_ask.SetState state.Closing) (back_asks.ask_at t.back.stage t.back) tt (key_asked t.back.stage h.back_sound.placed h.back h)
 
 pub back_reads : BackReadsTheFront
 back_reads r k e = subst (λ (a : BackBusAsk). KeyAsked a (front_texts (now r).keys.keys) (terms_of (now r).front)) e (key_asked_now r.offer r.facts (now r) (run_holds r))
@@ -170,11 +168,8 @@ map_asked s v n port terms f d texts h = tt
 
 map_asked_now : (v : BackView) (n : ℕ) (port : Option ℕ) (terms : FrontTerms) (f : Features) (d : DiskFacts) (texts : BackKey → Option (List ℕ))
     → BackHolds v.stage v n port terms f d texts → MapAsked (back_asks.ask_of v) v terms
-map_asked_now v n port terms f d texts h = by_test (back_asks.says_closing v)
-  where
-    by_test : (says : Bool) → MapAsked (if says then back_ask.SetState state.Closing else back_asks.ask_at v.stage v) v terms
-    by_test true = tt
-    by_test false = map_asked v.stage v n port terms f d texts h
+map_asked_now v n port terms f d texts h =
+    either (λ (a : BackBusAsk). MapAsked a v terms) (back_asks.says_closing v) (back_ask.SetState state.Closing) (back_asks.ask_at v.stage v) tt (map_asked v.stage v n port terms f d texts h)
 
 pub maps_by_terms : MapsByTheTerms
 maps_by_terms r gref e =

@@ -43,7 +43,7 @@ use Rattle.negotiation_laws.specs.Within.{HavePorts}
 use Rattle.negotiation_laws.specs.Run.{NegotiationRun, now, begins}
 use Rattle.negotiation_laws.specs.Granted.{granted, granted_in, granted_by}
 use Rattle.negotiation_laws.specs.Laws.{granted_now, BackMapsAfterTheGrants, ConnectedStaysGranted, ConnectsToAConnectedBack}
-use Rattle.negotiation_laws.proofs.Choices.{closed_cases}
+use Rattle.negotiation_laws.proofs.Choices.{closed_cases, due_cases, either}
 use Rattle.negotiation_laws.proofs.Shown.{state_shown}
 use Rattle.negotiation_laws.proofs.Grefs.{numbers_push}
 use Rattle.negotiation_laws.proofs.FrontActs as front_acts
@@ -89,11 +89,7 @@ due_closing state.Closing v held h = by_gone v.gone v.port h
 due_closing own v held h = h
 
 due_grants : (s : FrontBusStage) (v : FrontView) (idle : Bool) (held : List ℕ) → Grants s v held → Grants (due_at s v idle) v held
-due_grants front.Rest v idle held h = by_test (v.closing && idle)
-  where
-    by_test : (closes : Bool) → Grants (if closes then closing_stage v.state v else front.Rest) v held
-    by_test true = due_closing v.state v held h
-    by_test false = h
+due_grants front.Rest v idle held h = either (λ (d : FrontBusStage). Grants d v held) (v.closing && idle) (closing_stage v.state v) front.Rest (due_closing v.state v held h) h
 due_grants s v idle held h = h
 
 -- the back's state is read
@@ -182,22 +178,11 @@ IsNextPage (front.Grant page) v = page < pages_of v
 IsNextPage s v = Unit {0}
 
 due_page : (s : FrontBusStage) (v : FrontView) (idle : Bool) → front_sound.IsPlaced s v → IsNextPage (due_at s v idle) v
-due_page (front.Grant page) v idle h = h
-due_page front.Rest v idle h = by_test (v.closing && idle)
+due_page s v idle h = due_cases (λ (d : FrontBusStage). IsNextPage d v) s v idle (placed s h) tt tt tt
   where
-    leaves : (gone : Bool) (port : Option ℕ) → IsNextPage (leaving gone port) v
-    leaves false port = tt
-    leaves true (Some port) = tt
-    leaves true None = tt
-
-    closes : (own : BusState) → IsNextPage (closing_stage own v) v
-    closes state.Closing = leaves v.gone v.port
-    closes own = tt
-
-    by_test : (begun : Bool) → IsNextPage (if begun then closing_stage v.state v else front.Rest) v
-    by_test true = closes v.state
-    by_test false = tt
-due_page s v idle h = tt
+    placed : (s : FrontBusStage) → front_sound.IsPlaced s v → IsNextPage s v
+    placed (front.Grant page) h = h
+    placed s h = tt
 
 module _ (f : Features) (d : DiskFacts) (t : Negotiation) where
   state_grants : (idle : Bool) (held : List ℕ) → Holds f d t → GrantedAt t.front.state t.front.port (pages_of t.front) held
@@ -325,11 +310,8 @@ module _ (f : Features) (d : DiskFacts) (t : Negotiation) where
   maps_at s placed held = tt
 
   maps_now : Holds f d t → MapsNow (back_asks.ask_of t.back) t
-  maps_now h = by_test (back_asks.says_closing t.back)
-    where
-      by_test : (says : Bool) → MapsNow (if says then back_ask.SetState state.Closing else back_asks.ask_at t.back.stage t.back) t
-      by_test true = tt
-      by_test false = maps_at t.back.stage h.back_sound.placed h.back
+  maps_now h =
+      either (λ (a : BackBusAsk). MapsNow a t) (back_asks.says_closing t.back) (back_ask.SetState state.Closing) (back_asks.ask_at t.back.stage t.back) tt (maps_at t.back.stage h.back_sound.placed h.back)
 
 pub maps_after_grants : BackMapsAfterTheGrants
 maps_after_grants r gref e =

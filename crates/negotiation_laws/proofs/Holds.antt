@@ -42,6 +42,7 @@ use Rattle.negotiation_laws.specs.Said.{front_texts, back_texts}
 use Rattle.negotiation_laws.specs.Negotiation.{start_of}
 use Rattle.negotiation_laws.specs.Happening.{Happening, FrontMoves, BackMoves, FrontCloses, BackCloses, happened, after}
 use Rattle.negotiation_laws.specs.Within.{IsWithin, HasPort, HavePorts}
+use Rattle.negotiation_laws.proofs.Choices.{either}
 use Rattle.negotiation_laws.proofs.Keys.{back_texts_state}
 use Rattle.negotiation_laws.proofs.Watching.{sees_so, back_sees_kept}
 use Rattle.negotiation_laws.proofs.Between.{back_own, front_ask_leaves, front_ask_state, front_ask_own, front_ask_seen, back_ask_leaves, back_ask_state, back_ask_own, back_ask_seen, front_own_rises, back_own_rises}
@@ -103,11 +104,7 @@ due_closing_timely own v low = absurd (omega arith)
 
 -- so where what is due is begun
 pub due_timely : (s : FrontBusStage) (v : FrontView) (idle : Bool) → front_sound.IsTimely s v.state → front_sound.IsTimely (due_at s v idle) v.state
-due_timely front.Rest v idle h = by_test (v.closing && idle)
-  where
-    by_test : (closes : Bool) → front_sound.IsTimely (if closes then closing_stage v.state v else front.Rest) v.state
-    by_test true = due_closing_timely v.state v h
-    by_test false = h
+due_timely front.Rest v idle h = either (λ (d : FrontBusStage). front_sound.IsTimely d v.state) (v.closing && idle) (closing_stage v.state v) front.Rest (due_closing_timely v.state v h) h
 due_timely s v idle h = h
 
 -- a ring has few pages

@@ -1,5 +1,5 @@
 -- No honest end breaks the negotiation.
-use Rattle.std.proofs.Common.{◌≡◌, ◌∙◌, ap, sym, subst, ℕ, ◌+◌, ◌<◌, ◌≤◌, ◌==◌, ◌&&◌, nat_lt, Bool, true, false, true≢false, List, [], ◌∷◌, refl, arith, unwrap_or, if◌then◌else◌}
+use Rattle.std.proofs.Common.{◌≡◌, ◌∙◌, ap, sym, subst, ℕ, ◌+◌, ◌<◌, ◌≤◌, ◌==◌, nat_lt, Bool, true, false, true≢false, List, [], ◌∷◌, refl, arith, unwrap_or, if◌then◌else◌}
 use Rattle.std.specs.Prelude.{Option, None, Some, is_some}
 use Rattle.blk_base.specs.declared.parts.Mapping.{Mapping}
 use Rattle.key_directory.specs.Directory.{key_of}
@@ -44,7 +44,7 @@ use Rattle.negotiation_laws.specs.Within.{HavePorts}
 use Rattle.negotiation_laws.specs.Run.{now, begins}
 use Rattle.negotiation_laws.specs.Said.{front_texts, back_texts}
 use Rattle.negotiation_laws.specs.Laws.{gone_halt, BackHaltsAsTheFrontIsGone, FrontBreaksOnlyUnserved, FrontIsUnbroken}
-use Rattle.negotiation_laws.proofs.Choices.{closed_cases}
+use Rattle.negotiation_laws.proofs.Choices.{closed_cases, due_cases, either}
 use Rattle.negotiation_laws.proofs.Shown.{state_shown}
 use Rattle.negotiation_laws.proofs.FrontActs as front_acts
 use Rattle.negotiation_laws.proofs.BackActs as back_acts
@@ -250,10 +250,6 @@ fact_unbroken : (k : BackKey) (m : ℕ) (v : FrontView) → is_broken (front_ste
 fact_unbroken back_key.Sectors m v = refl
 fact_unbroken k m v = refl
 
-choice_unbroken : (more : Bool) (s t : FrontBusStage) → is_broken s ≡ false → is_broken t ≡ false → is_broken (if more then s else t) ≡ false
-choice_unbroken true s t e g = e
-choice_unbroken false s t e g = g
-
 published_unbroken : (next : Option FrontKey) → is_broken (front_step.after_published next) ≡ false
 published_unbroken (Some k) = refl
 published_unbroken None = refl
@@ -302,32 +298,22 @@ module _ (f : Features) (d : DiskFacts) (t : Negotiation) where
   unbroken_at (front.ReadFeature k) idle port timely held served e h =
       let shows = back_shows f d t h in
       read_unbroken k (count_read (key_of t.keys.keys (back_path k))) timely h (feature_holds (state_number t.back.state) f d k t.front t.keys.keys shows.indirect shows.order (shows.features held.stage_after) held)
-  unbroken_at (front.RingWord word) idle port timely held served e h = choice_unbroken (word == 15) (front.Grant 0) (front.RingWord (word + 1)) refl refl
-  unbroken_at (front.Grant page) idle port timely held served e h = choice_unbroken (nat_lt (page + 1) (pages_of t.front)) (front.Grant (page + 1)) front.NewPort refl refl
+  unbroken_at (front.RingWord word) idle port timely held served e h = either (λ (one : FrontBusStage). is_broken one ≡ false) (word == 15) (front.Grant 0) (front.RingWord (word + 1)) refl refl
+  unbroken_at (front.Grant page) idle port timely held served e h = either (λ (one : FrontBusStage). is_broken one ≡ false) (nat_lt (page + 1) (pages_of t.front)) (front.Grant (page + 1)) front.NewPort refl refl
   unbroken_at (front.Publish k) idle port timely held served e h = published_unbroken (next_published (ring_order t.front) k)
   unbroken_at (front.ReadFact k) idle port timely held served e h =
       let shows = back_shows f d t h in
       known_unbroken k (fact_read k (key_of t.keys.keys (back_path k))) timely h (fact_holds (state_number t.back.state) f d k t.front t.keys.keys shows.sectors (shows.facts held.stage_after (rw timely (omega arith))) held)
   unbroken_at (front.WriteState s) idle port timely held served e h = written_unbroken s
   unbroken_at (front.EndGrant page) idle port timely held served e h =
-      choice_unbroken (nat_lt (page + 1) (pages_of t.front)) (front.EndGrant (page + 1)) front.EndOtherGrants refl refl
+      either (λ (one : FrontBusStage). is_broken one ≡ false) (nat_lt (page + 1) (pages_of t.front)) (front.EndGrant (page + 1)) front.EndOtherGrants refl refl
   unbroken_at front.EndOtherGrants idle port timely held served e h = others_unbroken t.front.port
   unbroken_at front.Closed idle port timely held served e h = woken_unbroken front.Closed (next_watch t.keys.front) t.front idle refl
   unbroken_at (front.Broken word) idle port timely held served e h = absurd (true≢false e)
   unbroken_at other idle port timely held served e h = refl
 
 due_unbroken : (s : FrontBusStage) (v : FrontView) (idle : Bool) → is_broken s ≡ false → is_broken (due_at s v idle) ≡ false
-due_unbroken front.Rest v idle e = choice_unbroken (v.closing && idle) (closing_stage v.state v) front.Rest (closes v.state) refl
-  where
-    leaves : (gone : Bool) (port : Option ℕ) → is_broken (leaving gone port) ≡ false
-    leaves false port = refl
-    leaves true (Some port) = refl
-    leaves true None = refl
-
-    closes : (own : BusState) → is_broken (closing_stage own v) ≡ false
-    closes state.Closing = leaves v.gone v.port
-    closes own = refl
-due_unbroken s v idle e = e
+due_unbroken s v idle e = due_cases (λ (d : FrontBusStage). is_broken d ≡ false) s v idle e refl refl refl
 
 closed_unbroken : (v : FrontView) → is_broken v.stage ≡ false → is_broken (closed v).stage ≡ false
 closed_unbroken v e = closed_cases (λ (w : FrontView). is_broken w.stage ≡ false) v e e
