@@ -61,6 +61,7 @@ impl ReplyRow {
     }
 
     /// The words of the reply that the last line pushed.
+    #[inline(always)]
     pub fn pushed(&self) -> Option<[u32; 3]>
         ensures { result ≡ self.now.pushed }
     {

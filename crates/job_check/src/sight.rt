@@ -175,6 +175,7 @@ impl JobSight {
 
     /// One line further, where this is kept of the ring before the line. After want of memory all is
     /// as before.
+    #[inline(always)]
     pub fn see(&mut self, ring: &RingSight, line: &Line) -> Result<(), OutOfMemory>
         ensures seen { Becomes (seen ring.now self.old line.now) result self.old self.new }
     {
@@ -205,12 +206,24 @@ impl JobSight {
                 self.moved = None;
                 Ok(())
             }
+            Move::Read {
+                who: BackMover::Back,
+                value,
+                ..
+            } => {
+                if ring.entry_word(line).is_some() {
+                    self.take_word(ring, *value)?;
+                }
+                self.replies.pass();
+                self.moved = None;
+                Ok(())
+            }
             _ => self.see_any(ring, line),
         }
     }
 
     // One line further, whatever it is. Most lines are accesses of the front's, which tell nothing of
-    // jobs, and words that jobs read, so `see` doesn't ask of those what else they may be.
+    // jobs, and words that jobs and the back read, so `see` doesn't ask of those what else they may be.
     fn see_any(&mut self, ring: &RingSight, line: &Line) -> Result<(), OutOfMemory>
         ensures seen { Becomes (seen ring.now self.old line.now) result self.old self.new }
     {

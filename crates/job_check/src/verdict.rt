@@ -1,12 +1,12 @@
 // Whether a line may come next.
-ghost use Rattle.std.specs.Prelude.{◌≡◌};
+ghost use Rattle.std.specs.Prelude.{◌≡◌, Some};
 ghost use Rattle.std.specs.List.{list_any};
 ghost use Rattle.std.specs.Map.{values_of};
 ghost use Rattle.blk_layout.specs.Response.{response_of};
 ghost use Rattle.job_check.specs.Open.{may_answer};
 ghost use Rattle.job_check.specs.Replies.{is_next_value, is_place};
-ghost use Rattle.job_check.specs.State.{value_seen};
-ghost use Rattle.job_check.specs.Verdict.{allows_step, is_call, is_done_by, is_outcome_for, allows_effect, gives, allows_data, word_written_seen, allows_value, is_same_status, tells_of, is_told, allows_reply};
+ghost use Rattle.job_check.specs.State.{job_at, value_seen};
+ghost use Rattle.job_check.specs.Verdict.{may_step_of, allows_step, is_call, is_done_by, is_outcome_for, allows_effect, gives, allows_data, word_written_seen, allows_value, is_same_status, tells_of, is_told, allows_reply};
 
 use crate::open::OpenJob;
 use crate::replies::ReplyRow;
@@ -124,21 +124,58 @@ fn is_next_value(r: &ReplyRow, jobs: &BTreeMap<u64, OpenJob>, replied: u32, valu
 impl JobSight {
     /// Whether the rule on steps allows the line: each move of a job but an unmap is the next step of
     /// its work, through the mapping of its segment.
+    #[inline(always)]
     pub fn allows_step(&self, line: &Line) -> bool
         ensures { result ≡ allows_step self.now line.now }
     {
-        match (line, stepper(line)) {
-            (Line::Move(made), Some(k)) => match self.jobs.get(&k) {
-                None => false,
-                Some(job) => job.may_step(&self.kept, made),
+        match line {
+            Line::Move(made) => match *made {
+                Move::Read {
+                    who: BackMover::Job(k),
+                    ..
+                } => self.may_step(k, made),
+                _ => self.allows_any_step(line),
             },
             _ => true,
         }
     }
 
+    // The same, whatever the line is. Most moves of jobs are reads, so `allows_step` doesn't ask of
+    // those what else they may be.
+    fn allows_any_step(&self, line: &Line) -> bool
+        ensures { result ≡ allows_step self.now line.now }
+    {
+        match (line, stepper(line)) {
+            (Line::Move(made), Some(k)) => self.may_step(k, made),
+            _ => true,
+        }
+    }
+
+    // Whether a job is open and the move may be its next step.
+    fn may_step(&self, k: u64, made: &Move) -> bool
+        ensures { result ≡ may_step_of (job_at self.now.jobs k) self.now.kept made.now }
+    {
+        match self.jobs.get(&k) {
+            None => false,
+            Some(job) => job.may_step(&self.kept, made),
+        }
+    }
+
     /// Whether the rule on effects allows the line: each move of the disk is followed by its outcome,
     /// and no other line is one.
+    #[inline(always)]
     pub fn allows_effect(&self, line: &Line) -> bool
+        ensures { result ≡ allows_effect self.now line.now }
+    {
+        match (self.moved, line) {
+            (None, Line::Move(_)) => true,
+            (Some(_), Line::Move(_)) => false,
+            _ => self.allows_outcome(line),
+        }
+    }
+
+    // The same, whatever the line is. Most lines are moves, which are no outcomes.
+    fn allows_outcome(&self, line: &Line) -> bool
         ensures { result ≡ allows_effect self.now line.now }
     {
         match (self.moved, outcome_of(line)) {
@@ -189,21 +226,35 @@ impl JobSight {
     }
 
     // Whether a reply that was pushed is told, and no other is.
+    #[inline(always)]
     fn is_told(&self, line: &Line) -> bool
         ensures { result ≡ is_told self.now line.now self.now.replies.pushed }
     {
         match self.replies.pushed() {
             None => !is_reply(line),
-            Some(row) => tells_of(row, line) && self.answered().is_some(),
+            Some(row) => self.is_row_told(row, line),
         }
+    }
+
+    // Whether the reply of these words, which was pushed, is told.
+    fn is_row_told(&self, row: [u32; 3], line: &Line) -> bool
+        ensures { result ≡ is_told self.now line.now (Some row) }
+    {
+        tells_of(row, line) && self.answered().is_some()
     }
 
     /// Whether the rule on replies allows the line: each reply has a job at its end of its own, whose
     /// response it is, in the slot of the next index; it is pushed and told at once, and the back
     /// writes nothing else into the ring but `req_event`.
+    #[inline(always)]
     pub fn allows_reply(&self, ring: &RingSight, line: &Line) -> bool
         ensures { result ≡ allows_reply ring.now self.now line.now }
     {
-        self.allows_value(ring, line) && self.is_told(line)
+        match line {
+            Line::Move(Move::FrontRead { .. })
+            | Line::Move(Move::FrontWrite { .. })
+            | Line::Move(Move::Read { .. }) => self.is_told(line),
+            _ => self.allows_value(ring, line) && self.is_told(line),
+        }
     }
 }

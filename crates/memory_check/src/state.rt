@@ -46,6 +46,7 @@ impl Memory {
     }
 
     /// The value of a word.
+    #[inline(always)]
     pub fn word(&self, frame: u32, word: u32) -> u32
         ensures { result ≡ word_at self.now frame word }
     {
@@ -70,6 +71,7 @@ impl Memory {
         self.numbers.has(number)
     }
 
+    #[inline(always)]
     fn write(&mut self, frame: u32, word: u32, value: u32) -> Result<(), OutOfMemory>
         ensures written { Becomes (with_word self.old frame word value) result self.old self.new }
     {
@@ -146,7 +148,20 @@ impl Memory {
     }
 
     /// Takes in the next line. After want of memory nothing has changed.
+    #[inline(always)]
     pub fn see(&mut self, line: &Line) -> Result<(), OutOfMemory>
+        ensures seen { Becomes (seen self.old line.now) result self.old self.new }
+    {
+        match *line {
+            Line::Move(Move::FrontWrite { frame, word, value }) => self.write(frame, word, value),
+            Line::Move(Move::FrontRead { .. }) | Line::Move(Move::Read { .. }) => Ok(()),
+            _ => self.see_any(line),
+        }
+    }
+
+    // The next line, whatever it is. Most lines are accesses of the front's and reads, so `see` doesn't
+    // ask of those what else they may be.
+    fn see_any(&mut self, line: &Line) -> Result<(), OutOfMemory>
         ensures seen { Becomes (seen self.old line.now) result self.old self.new }
     {
         match *line {

@@ -49,7 +49,27 @@ fn is_to_write(frame: u32, standing: Option<Standing>) -> bool
 
 impl Memory {
     /// Whether a line shows of memory what the lines before it left there.
+    #[inline(always)]
     pub fn shows_what_is_there(&self, line: &Line) -> bool
+        ensures { result ≡ shows_what_is_there self.now line.now }
+    {
+        match *line {
+            Line::Move(Move::FrontWrite { .. }) => true,
+            Line::Move(Move::FrontRead { frame, word, value }) => value == self.word(frame, word),
+            Line::Move(
+                Move::Read {
+                    frame,
+                    word,
+                    value,
+                    ..
+                },
+            ) => value == self.word(frame, word),
+            _ => self.shows_it(line),
+        }
+    }
+
+    // The same, whatever the line is.
+    fn shows_it(&self, line: &Line) -> bool
         ensures { result ≡ shows_what_is_there self.now line.now }
     {
         match *line {
@@ -122,6 +142,7 @@ impl Memory {
 
     /// Whether a read or write of the back goes through a mapping that stands, shows its frame, and
     /// writes only where the mapping is for writing.
+    #[inline(always)]
     pub fn touches_a_mapping(&self, line: &Line) -> bool
         ensures { result ≡ touches_a_mapping self.now line.now }
     {

@@ -57,6 +57,7 @@ impl Words {
     }
 
     /// The value of a word.
+    #[inline(always)]
     pub(crate) fn value(&self, frame: u32, word: u32) -> u32
         ensures { result ≡ word_in self.now frame word }
     {

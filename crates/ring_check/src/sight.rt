@@ -1,8 +1,9 @@
 // What is kept of the ring, and one line further.
-ghost use Rattle.std.specs.Prelude.{◌≡◌, ◌+◌, ◌<◌, ◌≤◌, ◌++◌, IfOk, IfSome};
+ghost use Rattle.std.specs.Prelude.{◌≡◌, ◌+◌, ◌<◌, ◌≤◌, ◌++◌, IfOk, IfSome, None, false};
 ghost use Rattle.std.specs.Option.{option_to_list};
 ghost use Rattle.blk_base.specs.Becomes.{Becomes};
-ghost use Rattle.report_rules.specs.Ring.{page_made};
+ghost use Rattle.report_rules.specs.Ring.{abi_after, page_made, start_told};
+ghost use Rattle.report_rules.specs.Standing.{is_epoch};
 ghost use Rattle.ring_check.specs.State.{begun, no_lines, entry_word_seen, producer_on, response_on, overrun_seen, newer, is_last, fetched_after, within_after, seen};
 
 mod views;
@@ -226,6 +227,7 @@ impl RingSight {
     }
 
     /// One line further. After want of memory all is as before.
+    #[inline(always)]
     pub fn see(&mut self, line: &Line) -> Result<(), OutOfMemory>
         ensures seen { Becomes (seen self.old line.now) result self.old self.new }
     {
@@ -247,8 +249,36 @@ impl RingSight {
                 self.overrun = None;
                 Ok(())
             }
+            Line::Move(
+                Move::Read {
+                    who: BackMover::Back,
+                    ..
+                },
+            ) => self.see_read(line),
             _ => self.see_any(line),
         }
+    }
+
+    // One line further, which is a read of the back's own: it makes no page, and tells nothing of the
+    // start and of the layout.
+    fn see_read(&mut self, line: &Line) -> Result<(), OutOfMemory>
+        requires within { is_epoch line.now ≡ false }
+        requires start { start_told self.old.start line.now ≡ self.old.start }
+        requires layout { abi_after self.old.abi line.now ≡ self.old.abi }
+        requires page { page_made line.now ≡ None }
+        requires response { response_on self.old.pages line.now ≡ None }
+        ensures seen { Becomes (seen self.old line.now) result self.old self.new }
+    {
+        let word = self.entry_word(line);
+        let fetched = fetched_after(self.abi, self.fetched, self.within, word)?;
+        let within = within_after(self.abi, self.within, word)?;
+        let overrun = self.overrun_in(line);
+        self.shown = newer(self.producer_in(line), self.shown);
+        self.fetched = fetched;
+        self.within = within;
+        self.overran = self.overran || overrun.is_some();
+        self.overrun = overrun;
+        Ok(())
     }
 
     // One line further, whatever it is. Most lines are accesses that tell nothing of the ring, so

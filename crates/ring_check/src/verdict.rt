@@ -19,6 +19,7 @@ fn is_in_page(word: Option<u32>) -> bool
     }
 }
 
+#[inline(always)]
 fn is_halt_of(overrun: Option<Overrun>, line: &Line) -> bool
     ensures { result ≡ is_halt_of overrun line.now }
 {
@@ -139,7 +140,22 @@ impl RingSight {
 
     /// Whether the rule on overruns allows the line: the line after a read of a producer that
     /// overran is its halt, and nothing more is served in that epoch.
+    #[inline(always)]
     pub fn allows_overrun(&self, line: &Line) -> bool
+        ensures { result ≡ allows_overrun self.now line.now }
+    {
+        match line {
+            Line::Move(Move::FrontRead { .. }) | Line::Move(Move::FrontWrite { .. }) => {
+                is_halt_of(self.overrun(), line)
+            }
+            Line::Move(Move::Read { .. }) => is_halt_of(self.overrun(), line) && !self.overran(),
+            _ => self.allows_any(line),
+        }
+    }
+
+    // The same, whatever the line is. Most lines are accesses of the front's and reads, so
+    // `allows_overrun` doesn't ask of those what else they may be.
+    fn allows_any(&self, line: &Line) -> bool
         ensures { result ≡ allows_overrun self.now line.now }
     {
         is_halt_of(self.overrun(), line) && (!is_service(line) || !self.overran())

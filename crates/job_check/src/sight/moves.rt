@@ -132,7 +132,7 @@ impl JobSight {
     }
 
     // Takes in a word of the entry that is being read: with its last one its job is opened.
-    fn take_word(&mut self, ring: &RingSight, value: u32) -> Result<(), OutOfMemory>
+    pub(super) fn take_word(&mut self, ring: &RingSight, value: u32) -> Result<(), OutOfMemory>
         ensures taken { Becomes (after_entry_word ring.now self.old value) result self.old self.new }
     {
         self.entry.push(value)?;
