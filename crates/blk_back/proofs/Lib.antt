@@ -5,3 +5,4 @@ pub mod Plain
 pub mod Keeping
 pub mod Sound
 pub mod Parts
+pub mod EntryParts

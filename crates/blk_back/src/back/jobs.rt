@@ -65,6 +65,14 @@ impl Back {
         }
     }
 
+    /// How many jobs it holds.
+    #[inline(always)]
+    pub fn held(&self) -> usize
+        ensures { result ≡ length self.now.jobs.works }
+    {
+        self.jobs.count()
+    }
+
     /// Whether it asks for nothing but an event.
     #[inline(always)]
     pub fn waits(&self) -> bool

@@ -1,11 +1,15 @@
-// Words of a sector that a job moves many at once.
-ghost use Rattle.std.specs.Prelude.{◌≡◌, true, None, IfSome, IsPermutation, length};
+// Words that are moved many at once: of a sector by a job, of an entry by the back itself.
+ghost use Rattle.std.specs.Prelude.{◌≡◌, ◌+◌, ◌<◌, [], true, None, IfSome, IsPermutation, length};
 ghost use Rattle.std.specs.Option.{IsSomeAnd};
 ghost use Rattle.back_jobs.specs.Part.{words_read, words_written, AsksEach, IsWithinPage, NamesPart, IsReadPart, IsWrittenPart};
 ghost use Rattle.blk_back.specs.Hands.{hands_of, all_hands_of};
 ghost use Rattle.blk_back.specs.Part.{job_part, job_values, job_steps_keeping, job_asked_keeping, MovesEachKeeping};
+ghost use Rattle.blk_back.specs.Part.{entry_from, entry_part_at, entry_part, copied, steps_keeping, asked_keeping, BackMovesEachKeeping};
+ghost use Rattle.blk_back.specs.declared.stage.BackStage.TheVariants as stage;
+ghost use Rattle.ring_words.specs.Shape.{entry_words_of};
 
 use super::Back;
+use crate::stage::BackStage;
 use back_jobs::SectorPart;
 
 impl Back {
@@ -64,5 +68,83 @@ impl Back {
         ensures hands { IsPermutation (all_hands_of self.old) (all_hands_of self.new) }
     {
         self.jobs.tell_written(number, count);
+    }
+}
+
+impl Back {
+    /// The words of the entry that it copies, as single asks would name them one after another from the next one on: up
+    /// to the entry's last word, or to the last one of their page where the entry goes on in the next. `None` exactly
+    /// where it copies no entry, or hasn't its first word yet, which it asks for alone, and after a halt.
+    #[inline(always)]
+    pub fn entry_part(&self) -> Option<SectorPart>
+        ensures value { result ≡ entry_part self.now }
+        ensures each { IfSome result (λ part. AsksEach part [] (asked_keeping self.now)) }
+        ensures within { IfSome result (λ part. IsWithinPage part) }
+        ensures names { IfSome result (λ part. NamesPart (hands_of self.now) part) }
+    {
+        match self.halted {
+            Some(_) => None,
+            None => self.entry_words(),
+        }
+    }
+
+    // The same of a back that hasn't halted.
+    #[inline(always)]
+    fn entry_words(&self) -> Option<SectorPart>
+        ensures value { result ≡ entry_part_at self.now.stage self.now }
+        ensures within { IfSome result (λ part. IsWithinPage part) }
+    {
+        match self.stage {
+            BackStage::Fetch(k) => Some(self.entry_from(k)),
+            _ => None,
+        }
+    }
+
+    // The words of the next entry from word `k` on.
+    #[inline(always)]
+    fn entry_from(&self, k: u32) -> SectorPart
+        requires { k < entry_words_of self.now.shape.abi }
+        ensures value { result ≡ entry_from self.now k }
+        ensures within { IsWithinPage result }
+    {
+        let shape = self.shape();
+        let (page, word) = shape.slot_word(self.ring.indices.cons(), k);
+        SectorPart {
+            mapping: self.page(page),
+            word,
+            count: (shape.entry_words() - k).min(1024 - word),
+            writes: false,
+        }
+    }
+
+    /// These words were read, the first ones of the part of an entry that it asks for: as if each had been told by
+    /// itself. With the entry's last word its job begins.
+    #[inline(always)]
+    pub fn tell_entry(&mut self, words: &[u32])
+        requires part { IsSomeAnd (entry_part self.old) (λ part. IsReadPart part (length words.now)) }
+        requires told { self.old.told ≡ None }
+        ensures stepped { self.new ≡ steps_keeping self.old (words_read words.now) }
+        ensures each { BackMovesEachKeeping self.old (words_read words.now) }
+        ensures told { self.new.told ≡ None }
+        ensures hands { IsPermutation (all_hands_of self.old) (all_hands_of self.new) }
+    {
+        let Some((last, rest)) = words.split_last() else {
+            return;
+        };
+        if let BackStage::Fetch(k) = self.stage {
+            self.copy(k, rest);
+            self.fetch(k + rest.len() as u32, *last);
+        }
+    }
+
+    // Words of an entry were read, and its last one wasn't.
+    #[inline(always)]
+    fn copy(&mut self, k: u32, words: &[u32])
+        requires stage { self.old.stage ≡ stage.Fetch k }
+        requires placed { k + length words.now < entry_words_of self.old.shape.abi }
+        ensures { self.new ≡ copied self.old k words.now }
+    {
+        let _ = self.ring.entry.try_extend_from_slice(words);
+        self.stage = BackStage::Fetch(k + words.len() as u32);
     }
 }
