@@ -1,7 +1,7 @@
 // The frontend that keeps no grants.
 ghost use Rattle.std.specs.Prelude.{◌≡◌, ◌||◌, ◌≤◌, ◌^◌, None, is_some, IfOk, IfSome, IsOk, length};
 ghost use Rattle.blk_front.specs.Submit.{submit_of, unfinished, sectors_owed};
-ghost use Rattle.vbd_front.specs.View.{start_of, heard};
+ghost use Rattle.vbd_front.specs.View.{IsUnkept, start_of, heard};
 ghost use Rattle.vbd_front.specs.Ask.{ask_of, is_waiting, IsAnswer, StaysInMemory};
 ghost use Rattle.vbd_front.specs.Turn.{data_asked};
 ghost use Rattle.blk_front.specs.State.{is_open};
@@ -146,11 +146,13 @@ impl Frontend {
     }
 
     /// The words of a request's data that it asks for next, one after another, up to the last word of their sector: of a
-    /// write or a barrier as it is issued, and of a read that was answered. `None` where it asks for no such word.
+    /// write or a barrier as it is issued, and of a read that was answered. `None` where it asks for no such word. Its
+    /// end of the ring keeps no grant.
     pub fn sector_part(&self) -> Option<SectorPart>
         ensures value { result ≡ sector_part self.now }
         ensures asked { IfSome result (AsksEach ask_of step_of self.now) }
         ensures within { IfSome result IsWithin }
+        ensures unkept { IfSome result (λ part. IsUnkept self.now.ring) }
     {
         self.front.sector_part()
     }
