@@ -1,11 +1,12 @@
 -- The backend that may keep mappings for later requests (`feature-persistent` of `io/blkif.h`): what an answer makes of it, and of one of its jobs. One that is to keep some publishes 1, and takes the terms of its front once it has read whether that published 1 too; only then mappings are kept. One that is to keep none is as it is in `Step`.
-use Rattle.std.specs.Prelude.{◌≡◌, ℕ, Bool, true, false, not, ◌&&◌, ◌==◌, List, Option, Some, None, if◌then◌else◌}
+use Rattle.std.specs.Prelude.{◌≡◌, ℕ, Bool, true, false, not, ◌&&◌, ◌==◌, List, fold, Option, Some, None, if◌then◌else◌}
 use Rattle.blk_base.specs.Options.{Options}
 use Rattle.blk_base.specs.declared.ask.BackAsk.{BackAsk}
 use Rattle.blk_base.specs.declared.ask.BackAnswer.{BackAnswer}
 use Rattle.blk_back.specs.View as ring
 use Rattle.blk_back.specs.Keeping as keeping
 use Rattle.blk_back.specs.Part as ring_part
+use Rattle.back_jobs.specs.Part.{MovesEach}
 use Rattle.xenbus_state.specs.declared.offer.Features.{Features}
 use Rattle.xenbus_state.specs.declared.back.BackBusAsk.{BackBusAsk}
 use Rattle.xenbus_state.specs.declared.back.BackBusAsk.TheVariants as bus_ask
@@ -16,7 +17,7 @@ use Rattle.xenbus_state.specs.BackView as bus
 use Rattle.xenbus_state.specs.BackView.{BackView}
 use Rattle.xenbus_state.specs.BackStep as bus_step
 use Rattle.vbd_back.specs.View.{View, both, offer, heard, renewed}
-use Rattle.vbd_back.specs.Ask.{bus_ask_of, bus_moves, ring_moves}
+use Rattle.vbd_back.specs.Ask.{bus_ask_of, bus_moves, ring_moves, ask_of}
 use Rattle.vbd_back.specs.Step.{ring_halt, shape_read, halt_of, heard_by, waited, ring_moved, closes}
 
 -- The backend, and how many mappings it is to keep at most.
@@ -97,6 +98,16 @@ job_asked_keeping k number answers = ring_part.job_asked_keeping k.ends.ring num
 
 abbrev pub JobMovesEachKeeping : KeepingView → ℕ → List BackAnswer → Type 0
 JobMovesEachKeeping k number answers = ring_part.MovesEachKeeping k.ends.ring number answers
+
+-- answers to the backend itself, one after another: what they make of it, what it asks after them, and that each is to a word that it asks for then
+abbrev pub steps_keeping : KeepingView → List BackAnswer → KeepingView
+steps_keeping k answers = fold step_keeping k answers
+
+abbrev pub asked_keeping : KeepingView → List BackAnswer → BackAsk
+asked_keeping k answers = let l : KeepingView = steps_keeping k answers in ask_of l.ends
+
+abbrev pub BackMovesEachKeeping : KeepingView → List BackAnswer → Type 0
+BackMovesEachKeeping k answers = MovesEach (λ (l : KeepingView). ask_of l.ends) step_keeping k answers
 
 -- it is to keep no mapping, and none is kept
 pub record IsPlain (k : KeepingView) : Type 0 where

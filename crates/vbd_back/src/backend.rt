@@ -1,5 +1,5 @@
 // The backend that keeps no mapping.
-ghost use Rattle.std.specs.Prelude.{◌≡◌, ◌<◌, ◌≤◌, IfOk, IfSome, IsOk, None, true, length};
+ghost use Rattle.std.specs.Prelude.{◌≡◌, ◌<◌, ◌≤◌, [], IfOk, IfSome, IsOk, None, true, length};
 ghost use Rattle.std.specs.Option.{IsSomeAnd};
 ghost use Rattle.blk_back.specs.Ask.{StaysInPage};
 ghost use Rattle.blk_back.specs.Hands.{hands_of, most_held};
@@ -11,6 +11,7 @@ ghost use Rattle.vbd_back.specs.View.{start_of, renewed, heard};
 ghost use Rattle.vbd_back.specs.Ask.{ask_of, is_waiting, is_idle, IsAnswer};
 ghost use Rattle.vbd_back.specs.Step.{step_of, closes, job_ask_of, job_step, next_job_of};
 ghost use Rattle.vbd_back.specs.Part.{job_part, job_values, job_steps, job_asked, JobMovesEach};
+ghost use Rattle.vbd_back.specs.Part.{entry_part, steps_of, asked_after, BackMovesEach};
 
 use crate::keeping::KeepingBackend;
 use back_jobs::SectorPart;
@@ -133,6 +134,14 @@ impl Backend {
         self.back.next_job(after)
     }
 
+    /// How many jobs it holds.
+    #[inline(always)]
+    pub fn held(&self) -> usize
+        ensures { result ≡ length self.now.ring.jobs.works }
+    {
+        self.back.held()
+    }
+
     /// Whether it asks for nothing but an event or a watch.
     #[inline(always)]
     pub fn waits(&self) -> bool
@@ -215,5 +224,36 @@ impl Backend {
         ensures hands { hands_of self.new.ring ≡ hands_of self.old.ring }
     {
         self.back.job_tell_written(number, count);
+    }
+}
+
+impl Backend {
+    /// The words of the entry that its end of the ring copies, as single asks would name them one after another from the
+    /// next one on: up to the entry's last word, or to the last one of their page where the entry goes on in the next.
+    /// `None` where it copies no entry, or hasn't its first word yet, which it asks for alone, after a halt, and while
+    /// the negotiation asks for something.
+    #[inline(always)]
+    pub fn entry_part(&self) -> Option<SectorPart>
+        ensures value { result ≡ entry_part self.now }
+        ensures each { IfSome result (λ part. AsksEach part [] (asked_after self.now)) }
+        ensures within { IfSome result (λ part. IsWithinPage part) }
+        ensures names { IfSome result (λ part. NamesPart (hands_of self.now.ring) part) }
+    {
+        self.back.entry_part()
+    }
+
+    /// These words were read, the first ones of the part of an entry that it asks for: as if each had been told by
+    /// itself. With the entry's last word its job begins.
+    #[inline(always)]
+    pub fn tell_entry(&mut self, words: &[u32])
+        requires part { IsSomeAnd (entry_part self.old) (λ part. IsReadPart part (length words.now)) }
+        requires told { self.old.ring.told ≡ None }
+        ensures stepped { self.new ≡ steps_of self.old (words_read words.now) }
+        ensures each { BackMovesEach self.old (words_read words.now) }
+        ensures told { self.new.ring.told ≡ None }
+        ensures ring { self.new ≡ record self.old { ring = self.new.ring } }
+        ensures hands { hands_of self.new.ring ≡ hands_of self.old.ring }
+    {
+        self.back.tell_entry(words);
     }
 }

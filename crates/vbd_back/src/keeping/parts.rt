@@ -1,12 +1,14 @@
-// Words of a sector that a job moves many at once.
-ghost use Rattle.std.specs.Prelude.{◌≡◌, true, None, IfSome, IsPermutation, length};
+// Words that are moved many at once: of a sector by a job, of an entry by the ring's end.
+ghost use Rattle.std.specs.Prelude.{◌≡◌, [], true, None, IfSome, IsPermutation, length};
 ghost use Rattle.std.specs.Option.{IsSomeAnd};
 ghost use Rattle.back_jobs.specs.Part.{words_read, words_written, AsksEach, IsWithinPage, NamesPart, IsReadPart, IsWrittenPart};
 ghost use Rattle.blk_back.specs.Hands.{hands_of, all_hands_of};
-ghost use Rattle.vbd_back.specs.Part.{job_part, job_values};
+ghost use Rattle.vbd_back.specs.Part.{job_part, job_values, entry_part};
 ghost use Rattle.vbd_back.specs.Keeping.{job_steps_keeping, job_asked_keeping, JobMovesEachKeeping};
+ghost use Rattle.vbd_back.specs.Keeping.{with_ring, steps_keeping, asked_keeping, BackMovesEachKeeping};
 
 use super::KeepingBackend;
+use crate::turn::Turn;
 use back_jobs::SectorPart;
 
 impl KeepingBackend {
@@ -59,5 +61,39 @@ impl KeepingBackend {
         ensures hands { IsPermutation (all_hands_of self.old.ends.ring) (all_hands_of self.new.ends.ring) }
     {
         self.ring.job_tell_written(number, count);
+    }
+}
+
+impl KeepingBackend {
+    /// The words of the entry that its end of the ring copies, as single asks would name them one after another from the
+    /// next one on: up to the entry's last word, or to the last one of their page where the entry goes on in the next.
+    /// `None` where it copies no entry, or hasn't its first word yet, which it asks for alone, after a halt, and while
+    /// the negotiation asks for something.
+    #[inline(always)]
+    pub fn entry_part(&self) -> Option<SectorPart>
+        ensures value { result ≡ entry_part self.now.ends }
+        ensures each { IfSome result (λ part. AsksEach part [] (asked_keeping self.now)) }
+        ensures within { IfSome result (λ part. IsWithinPage part) }
+        ensures names { IfSome result (λ part. NamesPart (hands_of self.now.ends.ring) part) }
+    {
+        match self.turn {
+            Turn::Ring => self.ring.entry_part(),
+            _ => None,
+        }
+    }
+
+    /// These words were read, the first ones of the part of an entry that it asks for: as if each had been told by
+    /// itself. With the entry's last word its job begins.
+    #[inline(always)]
+    pub fn tell_entry(&mut self, words: &[u32])
+        requires part { IsSomeAnd (entry_part self.old.ends) (λ part. IsReadPart part (length words.now)) }
+        requires told { self.old.ends.ring.told ≡ None }
+        ensures stepped { self.new ≡ steps_keeping self.old (words_read words.now) }
+        ensures each { BackMovesEachKeeping self.old (words_read words.now) }
+        ensures told { self.new.ends.ring.told ≡ None }
+        ensures ring { self.new ≡ with_ring self.old self.new.ends.ring }
+        ensures hands { IsPermutation (all_hands_of self.old.ends.ring) (all_hands_of self.new.ends.ring) }
+    {
+        self.ring.tell_entry(words);
     }
 }

@@ -51,6 +51,14 @@ impl KeepingBackend {
         self.ring.next_job(after)
     }
 
+    /// How many jobs it holds.
+    #[inline(always)]
+    pub fn held(&self) -> usize
+        ensures { result ≡ length self.now.ends.ring.jobs.works }
+    {
+        self.ring.held()
+    }
+
     /// Whether it asks for nothing but an event or a watch.
     #[inline(always)]
     #[tactic(auto, using(crate::proofs::Turns::open_asks))]
