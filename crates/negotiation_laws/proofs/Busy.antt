@@ -27,13 +27,12 @@ use Rattle.xenbus_state.specs.FrontStep.{at, step_at, acted, feature_step, after
 use Rattle.xenbus_state.specs.FrontSound.{IsTimely}
 use Rattle.xenbus_state.specs.BackView.{BackView, unplugged}
 use Rattle.xenbus_state.specs.BackAsk as back_asks
-use Rattle.xenbus_state.specs.BackStep as back_step
-use Rattle.negotiation_laws.specs.Negotiation.{Negotiation, start_of, back_path, front_state, back_state, state_text, front_woken, front_answered, front_done, front_moved, back_answered, back_done, back_moved}
+use Rattle.negotiation_laws.specs.Negotiation.{Negotiation, start_of, back_path, front_state, back_state, state_text, front_woken, front_answered, front_done, front_moved, back_done, back_moved}
 use Rattle.negotiation_laws.specs.Happening.{Happening, FrontMoves, BackMoves, FrontCloses, BackCloses, happened, after}
 use Rattle.negotiation_laws.specs.Within.{HavePorts}
 use Rattle.negotiation_laws.specs.Run.{now, begins}
 use Rattle.negotiation_laws.specs.Laws.{IsAtRest, IsBusy, AreBusy, BusyFrontsConnect}
-use Rattle.negotiation_laws.proofs.Choices.{closed_cases, either, unplugged_cases}
+use Rattle.negotiation_laws.proofs.Choices.{back_move_cases, closed_cases, either, unplugged_cases}
 use Rattle.negotiation_laws.proofs.Shown.{state_shown}
 use Rattle.negotiation_laws.proofs.Watching.{sees_so, sees_kept, sees_fired, back_key_apart}
 use Rattle.negotiation_laws.proofs.Between.{back_own}
@@ -221,16 +220,12 @@ back_hears s own a d b h = tt
 
 -- so it stays as the back moves
 pub back_heard : (n : Negotiation) (page : Mapping) → IsHeard n → IsHeard (back_moved page n)
-back_heard n page known = by_test (back_asks.says_closing n.back)
-  where
-    by_test : (says : Bool)
-        → let a = (if says then back_ask.SetState state.Closing else back_asks.ask_at n.back.stage n.back) in
-        let w = (if says then record n.back { state = state.Closing } else back_step.step_at n.back.stage n.back (back_answered a page n.keys)) in
-        HeardAt n.front.stage n.front.state w.state (back_done a n.keys).front
-    by_test true = back_hears n.front.stage n.front.state (back_ask.SetState state.Closing) n.keys n.back.state known
-    by_test false =
-        let a = back_asks.ask_at n.back.stage n.back in
-        subst (λ (b : BusState). HeardAt n.front.stage n.front.state b (back_done a n.keys).front) (sym (back_state_at n.back.stage n.back page n.keys)) (back_hears n.front.stage n.front.state a n.keys n.back.state known)
+back_heard n page known =
+    back_move_cases (λ (a : BackBusAsk) (w : BackView). HeardAt n.front.stage n.front.state w.state (back_done a n.keys).front) n.back page n.keys
+    (λ e. back_hears n.front.stage n.front.state (back_ask.SetState state.Closing) n.keys n.back.state known)
+    (λ e.
+    let a = back_asks.ask_at n.back.stage n.back in
+    subst (λ (b : BusState). HeardAt n.front.stage n.front.state b (back_done a n.keys).front) (sym (back_state_at n.back.stage n.back page n.keys)) (back_hears n.front.stage n.front.state a n.keys n.back.state known))
 
 -- and as the front does, where it has unfinished requests
 module _ (f : Features) (d : DiskFacts) (n : Negotiation) where

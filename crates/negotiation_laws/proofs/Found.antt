@@ -72,19 +72,16 @@ pub record IsConnected (v : BackView) (n : ℕ) (port : Option ℕ) (terms : Fro
   pub grefs_read : v.grefs ≡ grefs_of (2 ^ terms.order)
 
 module _ (v : BackView) (n : ℕ) (port : Option ℕ) (terms : FrontTerms) (f : Features) (d : DiskFacts) (texts : BackKey → Option (List ℕ)) where
+  connected_so : (3 ≤ n) × IsSome port → AreFactsSaid texts f d → (v.terms ≡ terms) × (v.grefs ≡ grefs_of (2 ^ terms.order)) → IsConnected v n port terms f d texts
+  connected_so serving facts read = record { serving = serving; facts = facts; terms_read = read.0; grefs_read = read.1 }
+
   connected_at : (s : BackBusStage) → v.state ≡ state.Connected → IsPlaced s v → BackHolds s v n port terms f d texts → IsConnected v n port terms f d texts
-  connected_at back.Rest e placed h =
-      let read = h.read (rw e refl) in record { serving = h.serving_after (rw e refl); facts = subst (λ (own : BusState). FactsAt own texts f d) e h.said.1; terms_read = read.0; grefs_read = read.1 }
-  connected_at back.ReadState e placed h =
-      let read = h.read (rw e refl) in record { serving = h.serving_after (rw e refl); facts = subst (λ (own : BusState). FactsAt own texts f d) e h.said.1; terms_read = read.0; grefs_read = read.1 }
-  connected_at back.UnmapOthers e placed h =
-      let read = h.read (rw e refl) in record { serving = h.serving_after (rw e refl); facts = subst (λ (own : BusState). FactsLeft own texts f d) e h.said.1; terms_read = read.0; grefs_read = read.1 }
-  connected_at back.UnmapPage e placed h =
-      let read = h.read (rw e refl) in record { serving = h.serving_after (rw e refl); facts = subst (λ (own : BusState). FactsLeft own texts f d) e h.said.1; terms_read = read.0; grefs_read = read.1 }
-  connected_at back.ClosePort e placed h =
-      let read = h.read (rw e refl) in record { serving = h.serving_after (rw e refl); facts = subst (λ (own : BusState). FactsLeft own texts f d) e h.said.1; terms_read = read.0; grefs_read = read.1 }
-  connected_at (back.WriteState state.Closing) e placed h =
-      let read = h.read (rw e refl) in record { serving = h.serving_after (rw e refl); facts = subst (λ (own : BusState). FactsLeft own texts f d) e h.said.1; terms_read = read.0; grefs_read = read.1 }
+  connected_at back.Rest e placed h = connected_so (h.serving_after (rw e refl)) (subst (λ (own : BusState). FactsAt own texts f d) e h.said.1) (h.read (rw e refl))
+  connected_at back.ReadState e placed h = connected_so (h.serving_after (rw e refl)) (subst (λ (own : BusState). FactsAt own texts f d) e h.said.1) (h.read (rw e refl))
+  connected_at back.UnmapOthers e placed h = connected_so (h.serving_after (rw e refl)) (subst (λ (own : BusState). FactsLeft own texts f d) e h.said.1) (h.read (rw e refl))
+  connected_at back.UnmapPage e placed h = connected_so (h.serving_after (rw e refl)) (subst (λ (own : BusState). FactsLeft own texts f d) e h.said.1) (h.read (rw e refl))
+  connected_at back.ClosePort e placed h = connected_so (h.serving_after (rw e refl)) (subst (λ (own : BusState). FactsLeft own texts f d) e h.said.1) (h.read (rw e refl))
+  connected_at (back.WriteState state.Closing) e placed h = connected_so (h.serving_after (rw e refl)) (subst (λ (own : BusState). FactsLeft own texts f d) e h.said.1) (h.read (rw e refl))
   connected_at (back.Publish k) e placed h = absurd (unlike v.state state.Initialising state.Connected placed.0 e (omega arith))
   connected_at (back.WriteState state.InitWait) e placed h = absurd (unlike v.state state.Initialising state.Connected placed.0 e (omega arith))
   connected_at (back.WriteState state.Connected) e placed h = absurd (unlike v.state state.InitWait state.Connected placed.0 e (omega arith))

@@ -19,8 +19,8 @@ use Rattle.xenbus_state.specs.declared.stage.BackBusStage.{BackBusStage}
 use Rattle.xenbus_state.specs.declared.stage.BackBusStage.TheVariants as back
 use Rattle.xenbus_state.specs.declared.table.BackAction.{BackAction}
 use Rattle.xenbus_state.specs.declared.table.BackAction.TheVariants as back_act
-use Rattle.xenbus_state.specs.declared.back.BackBusAsk.TheVariants as back_ask
 use Rattle.xenbus_state.specs.FrontView.{terms_of}
+use Rattle.xenbus_state.specs.declared.back.BackBusAsk.{BackBusAsk}
 use Rattle.xenbus_state.specs.BackView.{BackView, unplugged}
 use Rattle.xenbus_state.specs.BackAsk as back_asks
 use Rattle.xenbus_state.specs.BackReading as reading
@@ -33,7 +33,7 @@ use Rattle.negotiation_laws.specs.Within.{HavePorts}
 use Rattle.negotiation_laws.specs.Run.{NegotiationRun, now, begins}
 use Rattle.negotiation_laws.specs.Said.{back_texts}
 use Rattle.negotiation_laws.specs.Laws.{TheRingOutlastsTheBack}
-use Rattle.negotiation_laws.proofs.Choices.{unplugged_cases}
+use Rattle.negotiation_laws.proofs.Choices.{back_move_cases, unplugged_cases}
 use Rattle.negotiation_laws.proofs.BackSteps.{key_holds}
 use Rattle.negotiation_laws.proofs.Shows.{serving_open}
 use Rattle.negotiation_laws.proofs.Holds.{Holds, start_holds, happening_holds, front_shows}
@@ -131,12 +131,9 @@ module _ (f : Features) (d : DiskFacts) (t : Negotiation) where
   saying_serving s own e = absurd (cc)
 
   back_move_serving : (page : Mapping) → Holds f d t → IsServing t.back → IsServing (back_moved page t).back
-  back_move_serving page h e = by_test (back_asks.says_closing t.back) refl
-    where
-      by_test : (says : Bool) → back_asks.says_closing t.back ≡ says
-          → IsServing (if says then record t.back { state = state.Closing } else back_step.step_at t.back.stage t.back (back_answered (if says then back_ask.SetState state.Closing else back_asks.ask_at t.back.stage t.back) page t.keys))
-      by_test true says has = saying_serving t.back.stage t.back.state (says_where t.back says)
-      by_test false says has = serving_at t.back.stage page h.back_sound.placed h.back h e has
+  back_move_serving page h e =
+      back_move_cases (λ (a : BackBusAsk) (w : BackView). IsServing w) t.back page t.keys (λ says has. saying_serving t.back.stage t.back.state (says_where t.back says))
+      (λ says has. serving_at t.back.stage page h.back_sound.placed h.back h e has)
 
 unplugged_serving : (v : BackView) → IsServing v → IsServing (unplugged v)
 unplugged_serving v e = unplugged_cases IsServing v e e

@@ -1,5 +1,5 @@
 -- No watch is lost.
-use Rattle.std.proofs.Common.{◌≡◌, ap, sym, subst, ℕ, ◌<◌, ◌⊎◌, Bool, true, false, true≢false, List, [], ◌∷◌, length, refl, arith, if◌then◌else◌, inl, inr}
+use Rattle.std.proofs.Common.{◌≡◌, ap, sym, subst, ℕ, ◌<◌, ◌⊎◌, Bool, true, false, true≢false, List, [], ◌∷◌, length, refl, arith, inl, inr}
 use Rattle.std.specs.Prelude.{Option, None, Some}
 use Rattle.blk_base.specs.declared.parts.Mapping.{Mapping}
 use Rattle.key_directory.specs.Directory.{Directory, key_of}
@@ -35,7 +35,7 @@ use Rattle.negotiation_laws.specs.Within.{HavePorts}
 use Rattle.negotiation_laws.specs.Run.{now, begins}
 use Rattle.negotiation_laws.specs.Heard.{front_listens, back_listens, front_heard_by, front_heard_in, front_heard, back_heard_by, back_heard_in, back_heard}
 use Rattle.negotiation_laws.specs.Laws.{NoFrontWatchIsLost, NoBackWatchIsLost}
-use Rattle.negotiation_laws.proofs.Choices.{closed_cases, unplugged_cases}
+use Rattle.negotiation_laws.proofs.Choices.{back_move_cases, closed_cases, unplugged_cases}
 use Rattle.negotiation_laws.proofs.Shown.{state_shown}
 use Rattle.negotiation_laws.proofs.Watching.{sees_so, sees_kept, sees_fired, front_key_apart, back_key_apart}
 use Rattle.negotiation_laws.proofs.Between.{back_own}
@@ -99,16 +99,11 @@ back_ask_heard a d b last h = h
 
 back_move_heard : (t : Negotiation) (page : Mapping) (last : Option BusState) → Sees back_state t.keys.front (last ≡ Some t.back.state)
     → Sees back_state (back_moved page t).keys.front (last ≡ Some (back_moved page t).back.state)
-back_move_heard t page last h = by_test (back_asks.says_closing t.back)
-  where
-    by_test : (says : Bool)
-        → let a = (if says then back_ask.SetState state.Closing else back_asks.ask_at t.back.stage t.back) in
-        let w = (if says then record t.back { state = state.Closing } else back_step.step_at t.back.stage t.back (back_answered a page t.keys)) in
-        Sees back_state (back_done a t.keys).front (last ≡ Some w.state)
-    by_test true = back_ask_heard (back_ask.SetState state.Closing) t.keys t.back.state last h
-    by_test false =
-        let a = back_asks.ask_at t.back.stage t.back in
-        subst (λ (s : BusState). Sees back_state (back_done a t.keys).front (last ≡ Some s)) (sym (back_state_at t.back.stage t.back page t.keys)) (back_ask_heard a t.keys t.back.state last h)
+back_move_heard t page last h =
+    back_move_cases (λ (a : BackBusAsk) (w : BackView). Sees back_state (back_done a t.keys).front (last ≡ Some w.state)) t.back page t.keys (λ e. back_ask_heard (back_ask.SetState state.Closing) t.keys t.back.state last h)
+    (λ e.
+    let a = back_asks.ask_at t.back.stage t.back in
+    subst (λ (s : BusState). Sees back_state (back_done a t.keys).front (last ≡ Some s)) (sym (back_state_at t.back.stage t.back page t.keys)) (back_ask_heard a t.keys t.back.state last h))
 
 FrontHears : Negotiation → Option BusState → Type 0
 FrontHears t last = front_listens t.front.stage ≡ true → Sees back_state t.keys.front (last ≡ Some t.back.state)
@@ -213,15 +208,10 @@ BackHears t last = back_listens t.back.stage ≡ true → Sees front_state t.key
 back_move_hears : (f : Features) (d : DiskFacts) (t : Negotiation) (page : Mapping) (last : Option BusState) → Holds f d t → BackHears t last
     → BackHears (back_moved page t) (back_heard_by (back_asks.ask_of t.back) t last)
 unfolding BackHears
-back_move_hears f d t page last h k = by_test (back_asks.says_closing t.back)
-  where
-    by_test : (says : Bool)
-        → let a = (if says then back_ask.SetState state.Closing else back_asks.ask_at t.back.stage t.back) in
-        let w = (if says then record t.back { state = state.Closing } else back_step.step_at t.back.stage t.back (back_answered a page t.keys)) in
-        back_listens w.stage ≡ true → Sees front_state (back_done a t.keys).back (back_heard_by a t last ≡ Some t.front.state)
-    by_test true = λ listens. sees_kept front_state back_state t.keys.back (last ≡ Some t.front.state) refl (k listens)
-    by_test false =
-        back_hears_at t.front.state last t.back.stage t page (state_shown (key_of t.keys.keys front_state) t.front.state h.states.front) h.back_sound.placed h.back_sees k
+back_move_hears f d t page last h k =
+    back_move_cases (λ (a : BackBusAsk) (w : BackView). back_listens w.stage ≡ true → Sees front_state (back_done a t.keys).back (back_heard_by a t last ≡ Some t.front.state)) t.back page t.keys
+    (λ e listens. sees_kept front_state back_state t.keys.back (last ≡ Some t.front.state) refl (k listens))
+    (λ e. back_hears_at t.front.state last t.back.stage t page (state_shown (key_of t.keys.keys front_state) t.front.state h.states.front) h.back_sound.placed h.back_sees k)
 
 back_closed_hears : (t : Negotiation) (last : Option BusState) → BackHears t last → BackHears (record t { front = closed t.front }) last
 unfolding BackHears

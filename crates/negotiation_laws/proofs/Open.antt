@@ -26,7 +26,7 @@ use Rattle.xenbus_state.specs.declared.table.FrontAction.{FrontAction}
 use Rattle.xenbus_state.specs.declared.table.FrontAction.TheVariants as front_act
 use Rattle.xenbus_state.specs.declared.table.BackAction.{BackAction}
 use Rattle.xenbus_state.specs.declared.table.BackAction.TheVariants as back_act
-use Rattle.xenbus_state.specs.declared.back.BackBusAsk.TheVariants as back_ask
+use Rattle.xenbus_state.specs.declared.back.BackBusAsk.{BackBusAsk}
 use Rattle.xenbus_state.specs.FrontView.{FrontView}
 use Rattle.xenbus_state.specs.FrontAsk as front_asks
 use Rattle.xenbus_state.specs.FrontAsk.{due}
@@ -42,6 +42,7 @@ use Rattle.negotiation_laws.specs.Happening.{Happening, FrontMoves, BackMoves, h
 use Rattle.negotiation_laws.specs.Within.{HasPort, HavePorts}
 use Rattle.negotiation_laws.specs.Run.{now, begins}
 use Rattle.negotiation_laws.specs.Laws.{IsOpen, OnlyACloseCloses, closes, AreBoth, WaitsForRequests, ConnectedAtRest}
+use Rattle.negotiation_laws.proofs.Choices.{back_move_cases}
 use Rattle.negotiation_laws.proofs.Resting.{agree_at_rest}
 use Rattle.negotiation_laws.proofs.Shown.{state_shown}
 use Rattle.negotiation_laws.proofs.FrontActs as front_acts
@@ -162,14 +163,12 @@ module _ (f : Features) (d : DiskFacts) (t : Negotiation) where
       record { front = still; back = o.back; front_state = omega arith; back_state = o.back_state }
 
   back_move_open : (page : Mapping) → Holds f d t → IsOpen t → IsOpen (back_moved page t)
-  back_move_open page h o = by_test (back_asks.says_closing t.back) refl
+  back_move_open page h o =
+      back_move_cases (λ (a : BackBusAsk) (w : BackView). IsOpen (record { front = t.front; back = w; keys = back_done a t.keys })) t.back page t.keys
+      (λ e. absurd (true≢false (sym e ∙ ap (λ (u : Bool). u && back_asks.says_closing_at t.back.stage t.back.state) o.back))) moves
     where
-      by_test : (says : Bool) → back_asks.says_closing t.back ≡ says
-          → let a = (if says then back_ask.SetState state.Closing else back_asks.ask_at t.back.stage t.back) in
-          let w = (if says then record t.back { state = state.Closing } else back_step.step_at t.back.stage t.back (back_answered a page t.keys)) in
-          IsOpen (record { front = t.front; back = w; keys = back_done a t.keys })
-      by_test true e = absurd (true≢false (sym e ∙ ap (λ (u : Bool). u && back_asks.says_closing_at t.back.stage t.back.state) o.back))
-      by_test false e =
+      moves : back_asks.says_closing t.back ≡ false → (let a = back_asks.ask_at t.back.stage t.back in IsOpen (record { front = t.front; back = back_step.step_at t.back.stage t.back (back_answered a page t.keys); keys = back_done a t.keys }))
+      moves e =
           let wrote = back_state_at t.back.stage t.back page t.keys in
           record {
             front = o.front;

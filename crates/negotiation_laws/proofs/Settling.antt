@@ -42,7 +42,7 @@ use Rattle.negotiation_laws.specs.Within.{HavePorts}
 use Rattle.negotiation_laws.specs.Run.{now, begins}
 use Rattle.negotiation_laws.specs.Left.{fact_left, front_left, front_reading, back_rest_left, offered_left, read_left, back_write_left, back_left, back_reading, one_if, front_goes, back_goes, left, goes, moves_in}
 use Rattle.negotiation_laws.specs.Laws.{MovesLower, SettlingIsBounded, RestsWhereNothingGoes}
-use Rattle.negotiation_laws.proofs.Choices.{closed_cases, unplugged_cases}
+use Rattle.negotiation_laws.proofs.Choices.{back_move_cases, closed_cases, unplugged_cases}
 use Rattle.negotiation_laws.proofs.Shown.{state_shown}
 use Rattle.negotiation_laws.proofs.BackActs as back_acts
 use Rattle.negotiation_laws.proofs.Watching.{back_key_apart}
@@ -260,17 +260,13 @@ module _ (f : Features) (d : DiskFacts) (t : Negotiation) where
 pub back_move_left : (f : Features) (d : DiskFacts) (t : Negotiation) (page : Mapping) → Holds f d t
     → one_if (goes (BackMoves page) t) + left (back_moved page t) ≤ left t
 unfolding Lowers
-back_move_left f d t page h = by_test (back_asks.says_closing t.back) refl
-  where
-    by_test : (says : Bool) → back_asks.says_closing t.back ≡ says
-        → let a = (if says then back_ask.SetState state.Closing else back_asks.ask_at t.back.stage t.back) in
-        let w = (if says then record t.back { state = state.Closing } else back_step.step_at t.back.stage t.back (back_answered a page t.keys)) in
-        one_if (back_goes a t.keys.back) + left (record { front = t.front; back = w; keys = back_done a t.keys }) ≤ left t
-    by_test true e =
-        let falls = says_falls f d t t.back.stage t.back.state (length t.back.pages) (says_where t.back e) in
-        let fires = back_fires (back_ask.SetState state.Closing) t.keys t.front.stage t.front.closing t.front.state t.front.gone t.back.state t.back.stage (λ w. w) h.front_sees h.back_sees in
-        program_sum 1 _ _ (back_reading t.back.stage) (back_reading t.back.stage) _ _ _ _ (3 * front_left t.front.stage t.front.state + front_reading t.front.stage) (omega arith) falls (omega arith) fires
-    by_test false e = lowers_at f d t t.back.stage page (3 * front_left t.front.stage t.front.state + front_reading t.front.stage) refl h.back_sound.placed h.back_sees h
+back_move_left f d t page h =
+    back_move_cases (λ (a : BackBusAsk) (w : BackView). one_if (back_goes a t.keys.back) + left (record { front = t.front; back = w; keys = back_done a t.keys }) ≤ left t) t.back page t.keys
+    (λ e.
+    let falls = says_falls f d t t.back.stage t.back.state (length t.back.pages) (says_where t.back e) in
+    let fires = back_fires (back_ask.SetState state.Closing) t.keys t.front.stage t.front.closing t.front.state t.front.gone t.back.state t.back.stage (λ w. w) h.front_sees h.back_sees in
+    program_sum 1 _ _ (back_reading t.back.stage) (back_reading t.back.stage) _ _ _ _ (3 * front_left t.front.stage t.front.state + front_reading t.front.stage) (omega arith) falls (omega arith) fires)
+    (λ e. lowers_at f d t t.back.stage page (3 * front_left t.front.stage t.front.state + front_reading t.front.stage) refl h.back_sound.placed h.back_sees h)
 
 -- a close lowers nothing
 front_close_left : (t : Negotiation) → 0 + left (record t { front = closed t.front }) ≤ left t

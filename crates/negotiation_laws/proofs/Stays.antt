@@ -1,5 +1,5 @@
 -- What an end has read or said once stays, whatever happens later.
-use Rattle.std.proofs.Common.{◌≡◌, ◌∙◌, ap, sym, subst, subst₂, ℕ, ◌<◌, ◌≤◌, Bool, true, false, List, [], ◌∷◌, length, refl, arith, le_trans, if◌then◌else◌}
+use Rattle.std.proofs.Common.{◌≡◌, ◌∙◌, ap, sym, subst, subst₂, ℕ, ◌<◌, ◌≤◌, Bool, List, [], ◌∷◌, length, refl, arith, le_trans}
 use Rattle.std.specs.Prelude.{Option, None, Some}
 use Rattle.blk_base.specs.declared.parts.Mapping.{Mapping}
 use Rattle.key_directory.specs.Directory.{Directory, key_of, with_key}
@@ -22,6 +22,7 @@ use Rattle.xenbus_state.specs.declared.table.FrontAction.{FrontAction}
 use Rattle.xenbus_state.specs.declared.table.FrontAction.TheVariants as front_act
 use Rattle.xenbus_state.specs.declared.table.BackAction.{BackAction}
 use Rattle.xenbus_state.specs.declared.table.BackAction.TheVariants as back_act
+use Rattle.xenbus_state.specs.declared.back.BackBusAsk.{BackBusAsk}
 use Rattle.xenbus_state.specs.declared.back.BackBusAsk.TheVariants as back_ask
 use Rattle.xenbus_state.specs.FrontView.{FrontView, closed}
 use Rattle.xenbus_state.specs.FrontAsk as front_asks
@@ -40,7 +41,7 @@ use Rattle.negotiation_laws.specs.Negotiation.{Negotiation, back_path, front_sta
 use Rattle.negotiation_laws.specs.Happening.{Happening, FrontMoves, BackMoves, FrontCloses, BackCloses, happened, after}
 use Rattle.negotiation_laws.specs.Within.{HavePorts}
 use Rattle.negotiation_laws.specs.Said.{front_texts, back_texts, AreFactsSaid}
-use Rattle.negotiation_laws.proofs.Choices.{closed_cases, unplugged_cases}
+use Rattle.negotiation_laws.proofs.Choices.{back_move_cases, closed_cases, unplugged_cases}
 use Rattle.negotiation_laws.proofs.Keys.{front_texts_state, back_texts_state, back_kept}
 use Rattle.negotiation_laws.proofs.Between.{back_own, front_ask_leaves, back_ask_leaves, front_own_rises, back_own_rises}
 use Rattle.negotiation_laws.proofs.Holds.{Holds, front_lawful, due_timely, happening_holds}
@@ -194,13 +195,9 @@ module _ (f : Features) (d : DiskFacts) where
       }
 
   back_move_stays : (t : Negotiation) (page : Mapping) → Holds f d t → Stays f d t (back_moved page t)
-  back_move_stays t page h = by_test (back_asks.says_closing t.back) (back_rises t.back h.back_sound)
-    where
-      by_test : (says : Bool)
-          → let a = (if says then back_ask.SetState state.Closing else back_asks.ask_at t.back.stage t.back) in
-          let w = (if says then record t.back { state = state.Closing } else back_step.step_at t.back.stage t.back (back_answered a page t.keys)) in
-          back_sound.Rises t.back.state a → Stays f d t (record { front = t.front; back = w; keys = back_done a t.keys })
-      by_test true rises = record {
+  back_move_stays t page h =
+      back_move_cases (λ (a : BackBusAsk) (w : BackView). back_sound.Rises t.back.state a → Stays f d t (record { front = t.front; back = w; keys = back_done a t.keys })) t.back page t.keys
+      (λ e rises. record {
         front_rises = omega arith;
         back_rises = back_own_rises (back_ask.SetState state.Closing) t.back.state rises;
         features = λ e. refl;
@@ -209,23 +206,24 @@ module _ (f : Features) (d : DiskFacts) where
         terms = λ e. refl;
         grefs = λ e. refl;
         facts = λ e. subst (λ (g : BackKey → Option (List ℕ)). AreFactsSaid g f d) (sym (back_texts_state t.keys.keys (state_text state.Closing))) e;
-      }
-      by_test false rises =
-          let v = t.back in
-          let a = back_asks.ask_at v.stage v in
-          let w = back_step.step_at v.stage v (back_answered a page t.keys) in
-          let wrote : w.state ≡ back_own a v.state = back_state_at v.stage v page t.keys in
-          let reads = terms_stay_at v.stage v page t.keys h.back_sound.placed in
-          record {
-            front_rises = omega arith;
-            back_rises = subst (λ (o : BusState). state_number v.state ≤ state_number o) (sym wrote) (back_own_rises a v.state rises);
-            features = λ e. refl;
-            disk = λ e. refl;
-            said = λ e. back_ask_leaves a t.keys;
-            terms = reads.terms;
-            grefs = reads.grefs;
-            facts = λ e. facts_stay_at f d v.stage v t.keys h.back.offer h.back.disk e;
-          }
+      })
+      (λ e rises.
+      let v = t.back in
+      let a = back_asks.ask_at v.stage v in
+      let w = back_step.step_at v.stage v (back_answered a page t.keys) in
+      let wrote : w.state ≡ back_own a v.state = back_state_at v.stage v page t.keys in
+      let reads = terms_stay_at v.stage v page t.keys h.back_sound.placed in
+      record {
+        front_rises = omega arith;
+        back_rises = subst (λ (o : BusState). state_number v.state ≤ state_number o) (sym wrote) (back_own_rises a v.state rises);
+        features = λ e. refl;
+        disk = λ e. refl;
+        said = λ e. back_ask_leaves a t.keys;
+        terms = reads.terms;
+        grefs = reads.grefs;
+        facts = λ e. facts_stay_at f d v.stage v t.keys h.back.offer h.back.disk e;
+      })
+      (back_rises t.back h.back_sound)
 
   front_close_stays : (t : Negotiation) → Stays f d t (record t { front = closed t.front })
   front_close_stays t =
