@@ -68,6 +68,45 @@ fn an_entry_is_copied_once_and_replied_to(rt: HostRuntime) {
 }
 
 #[test]
+fn the_words_of_an_entry_that_are_told_at_once_are_those_told_one_by_one(rt: HostRuntime) {
+    plays(
+        &rt,
+        rt.alloc(),
+        0,
+        &[
+            CONNECTS,
+            &[
+                Step::HasNoPart,
+                Step::Reads(RING, 0, 1),
+                // the first word is asked for alone
+                Step::HasNoPart,
+                Step::Reads(RING, 16, 0xca000104),
+                Step::HasPart(RING, 17, 27),
+                Step::CopiesAtOnce(&[]),
+                Step::HasPart(RING, 17, 27),
+                Step::CopiesAtOnce(&[0, 1, 0]),
+                Step::HasPart(RING, 20, 24),
+                Step::ReadsZeros(RING, 20, 22),
+                Step::HasPart(RING, 22, 22),
+                Step::Holds(0),
+                Step::NextJob(0, None),
+                Step::CopiesAtOnce(&[0; 22]),
+                // its job begins with the last word, and is replied to as one of single words is
+                Step::HasNoPart,
+                Step::Holds(1),
+                Step::NextJob(0, Some(1)),
+                Step::Does(Ask::Write(RING, 16, 1)),
+                Step::Holds(0),
+                Step::Does(Ask::Write(RING, 17, 0)),
+                Step::Does(Ask::Write(RING, 18, 0xffff0004)),
+                Step::Asks(Ask::Write(RING, 2, 1)),
+                Step::Replies(1, Status::Error),
+            ],
+        ],
+    );
+}
+
+#[test]
 fn it_sleeps_after_a_second_look_and_an_event_wakes_it(rt: HostRuntime) {
     plays(
         &rt,

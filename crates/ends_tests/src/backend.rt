@@ -217,6 +217,46 @@ fn a_push_is_ended_before_it_says_that_it_closes(rt: HostRuntime) {
 }
 
 #[test]
+fn an_entry_is_told_at_once_until_the_negotiation_asks_for_something(rt: HostRuntime) {
+    plays(
+        &rt,
+        rt.alloc(),
+        &[
+            BEGINS,
+            READS,
+            CONNECTS,
+            &[
+                Step::Told(Answer::Word(2)),
+                Step::HasNoPart,
+                Step::Told(Answer::Word(0)),
+                Step::HasPart(17, 27),
+                Step::CopiesAtOnce(&[0; 7]),
+                Step::HasPart(24, 20),
+                Step::CopiesAtOnce(&[0; 20]),
+                Step::HasNoPart,
+                Step::Holds(1),
+                // it replies to a read of no segments with an error, and fetches the next entry
+                Step::Does(Ask::Write(RING, 16, 0)),
+                Step::Holds(0),
+                Step::ToldEach(Answer::Done, 4),
+                Step::Told(Answer::Word(9)),
+                Step::Asks(Ask::Read(RING, 44)),
+                Step::Told(Answer::Word(0)),
+                Step::HasPart(45, 27),
+                Step::CopiesAtOnce(&[0; 7]),
+                // it says that it closes once it has copied the entry
+                Step::Closes,
+                Step::HasNoPart,
+                Step::Asks(Ask::Read(RING, 52)),
+                Step::ToldEach(Answer::Word(0), 20),
+                Step::Holds(1),
+                Step::Sets(STATE, "5"),
+            ],
+        ],
+    );
+}
+
+#[test]
 fn after_a_suspend_a_new_backend_offers_the_same_and_none_whose_front_is_gone_moves(
     rt: HostRuntime,
 ) {

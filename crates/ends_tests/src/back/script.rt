@@ -2,6 +2,7 @@
 // their parts; the calls that play them promise nothing, and are proved once.
 use crate::asks::{Answer, Ask, RING, Why, asked, given, halt};
 use crate::expected::{holds, same};
+use back_jobs::SectorPart;
 use blk_back::{Back, BackTold};
 use blk_base::{
     Abi, BackAnswer, BackAsk, Config, Endpoint, Halt, Lent, Mapping, OutOfMemory, Status,
@@ -49,6 +50,14 @@ pub enum Step<'a> {
     FetchesRead(u32, u32, u32, u32),
     /// The disk gives the job of a number a sector, and all its words are written at once through this mapping.
     JobWritesAtOnce(u64, Mapping),
+    /// It copies no entry.
+    HasNoPart,
+    /// The words of an entry that it copies next: through this mapping, from this word on, so many.
+    HasPart(Mapping, u32, u32),
+    /// It is told these words of the entry at once.
+    CopiesAtOnce(&'a [u32]),
+    /// It holds so many jobs.
+    Holds(usize),
 }
 
 // A back on a disk of eight sectors, whose ring starts at this index.
@@ -212,6 +221,32 @@ fn writes_at_once(rt: &impl Abort, back: &mut Back, number: u64, mapping: Mappin
     }
 }
 
+fn entry_part(back: &Back) -> Option<SectorPart> {
+    back.entry_part()
+}
+
+fn has_part(rt: &impl Abort, back: &Back, mapping: Mapping, (word, count): (u32, u32)) {
+    let part = SectorPart {
+        mapping,
+        word,
+        count,
+        writes: false,
+    };
+    same(rt, entry_part(back), Some(part));
+}
+
+fn copies_at_once(rt: &impl Abort, back: &mut Back, words: &[u32]) {
+    let _ = back.take_told();
+    match back.entry_part() {
+        Some(part) if !part.writes && words.len() <= part.count as usize => back.tell_entry(words),
+        _ => holds(rt, false),
+    }
+}
+
+fn held(back: &Back) -> usize {
+    back.held()
+}
+
 fn replies(rt: &impl Abort, back: &mut Back, id: u64, status: Status) {
     let told = tell(rt, back, BackAnswer::Done);
     same(rt, told, Some(BackTold::Reply { id, status }));
@@ -260,6 +295,10 @@ fn serves(rt: &impl Abort, back: &mut Back, step: &Step) {
             moves_at_once(rt, back, number, (mapping, sector))
         }
         Step::JobWritesAtOnce(number, mapping) => writes_at_once(rt, back, number, mapping),
+        Step::HasNoPart => same(rt, entry_part(back), None),
+        Step::HasPart(mapping, word, count) => has_part(rt, back, mapping, (word, count)),
+        Step::CopiesAtOnce(words) => copies_at_once(rt, back, words),
+        Step::Holds(count) => same(rt, held(back), count),
         Step::JobDoes(number, asks, answer) => job_does(rt, back, number, (asks, answer)),
         Step::JobMoves(number, mapping, sector) => job_moves(rt, back, number, (mapping, sector)),
         _ => {}

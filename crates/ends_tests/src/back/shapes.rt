@@ -87,6 +87,33 @@ fn an_entry_of_a_32_bit_guest_has_27_words(rt: HostRuntime) {
 }
 
 #[test]
+fn an_entry_in_two_pages_is_told_at_once_page_by_page(rt: HostRuntime) {
+    plays(
+        &rt,
+        rt.alloc(),
+        37,
+        &[&[
+            Step::Attaches(Abi::X32, 1, &[8, 9]),
+            Step::Maps(RING),
+            Step::Maps(SECOND),
+            Step::Does(Ask::Bind(1)),
+            Step::Reads(RING, 0, 38),
+            // entry 37 begins 9 words before the end of the first page
+            Step::Reads(RING, 1015, 0),
+            Step::HasPart(RING, 1016, 8),
+            Step::CopiesAtOnce(&[0; 8]),
+            Step::HasPart(SECOND, 0, 18),
+            Step::CopiesAtOnce(&[0; 17]),
+            Step::HasPart(SECOND, 17, 1),
+            Step::NextJob(0, None),
+            Step::Reads(SECOND, 17, 0),
+            Step::HasNoPart,
+            Step::NextJob(0, Some(1)),
+        ]],
+    );
+}
+
+#[test]
 fn a_refused_second_page_unmaps_the_first_alone(rt: HostRuntime) {
     plays(
         &rt,

@@ -1,7 +1,8 @@
 // Scripts: what a backend is told, step by step, and what it is to ask. A test is one call over their parts;
 // the calls that play them promise nothing, and are proved once.
-use crate::asks::{Answer, Ask, Why, asked, given, halt};
+use crate::asks::{Answer, Ask, RING, Why, asked, given, halt};
 use crate::expected::{holds, same};
+use back_jobs::SectorPart;
 use blk_base::{
     Abi, BackAnswer, BackAsk, Config, Endpoint, Halt, Lent, Mapping, OutOfMemory, ShortText,
 };
@@ -34,8 +35,14 @@ pub enum Step<'a> {
     Halted(Option<Why>),
     /// It is to close.
     Closes,
-    /// No job of it has words to move.
+    /// No job of it has words to move, and it copies no entry at once.
     HasNoPart,
+    /// The words of an entry that it copies next: of the ring's first page, from this word on, so many.
+    HasPart(u32, u32),
+    /// It is told these words of the entry at once.
+    CopiesAtOnce(&'a [u32]),
+    /// It holds so many jobs.
+    Holds(usize),
 }
 
 /// The front's state.
@@ -86,6 +93,31 @@ fn halted(backend: &Backend) -> Option<Halt> {
 fn has_no_part(rt: &impl Abort, backend: &Backend) {
     same(rt, backend.sector_part(1), None);
     holds(rt, backend.part_values(1).is_empty());
+    same(rt, backend.entry_part(), None);
+}
+
+fn has_part(rt: &impl Abort, backend: &Backend, (word, count): (u32, u32)) {
+    let part = SectorPart {
+        mapping: RING,
+        word,
+        count,
+        writes: false,
+    };
+    same(rt, backend.entry_part(), Some(part));
+}
+
+fn copies_at_once(rt: &impl Abort, backend: &mut Backend, words: &[u32]) {
+    let _ = backend.take_told();
+    match backend.entry_part() {
+        Some(part) if !part.writes && words.len() <= part.count as usize => {
+            backend.tell_entry(words)
+        }
+        _ => holds(rt, false),
+    }
+}
+
+fn held(backend: &Backend) -> usize {
+    backend.held()
 }
 
 // Answers what the backend asks with an answer of that kind.
@@ -181,6 +213,9 @@ fn takes(rt: &impl Abort, backend: &mut Backend, step: &Step) {
         Step::Halted(why) => same(rt, halted(backend), why.map(halt)),
         Step::Closes => close(backend),
         Step::HasNoPart => has_no_part(rt, backend),
+        Step::HasPart(word, count) => has_part(rt, backend, (word, count)),
+        Step::CopiesAtOnce(words) => copies_at_once(rt, backend, words),
+        Step::Holds(count) => same(rt, held(backend), count),
     }
 }
 
