@@ -123,6 +123,11 @@ plain_asks k (Some part) plain asks = record {
   writes = λ written j fits. plain_asked k (words_written j) plain ∙ asks.writes written j fits;
 }
 
+pub asks_each : (v : View) → keeping.KeepsNone v.ring → IfSome (entry_part v) (λ part. AsksEach part [] (asked_after v))
+asks_each v none =
+    let k : KeepingView = record { ends = v; most = 0 } in
+    plain_asks k (entry_part v) (record { never = refl; ring = none }) (part_asks k)
+
 -- and nothing that is held comes or goes
 allowed : (a : BackAsk) (given : BackAnswer) → MovesWord a given → IsAnswer a given
 allowed (ask.Read m word) (Word value) h = tt

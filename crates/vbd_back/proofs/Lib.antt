@@ -4,4 +4,4 @@ mod Plain
 mod Open
 mod Parts
 mod Kept
-mod EntryParts
+pub mod EntryParts

@@ -3,6 +3,7 @@ ghost use Rattle.std.specs.Prelude.{◌≡◌, ◌<◌, ◌≤◌, [], IfOk, IfS
 ghost use Rattle.std.specs.Option.{IsSomeAnd};
 ghost use Rattle.blk_back.specs.Ask.{StaysInPage};
 ghost use Rattle.blk_back.specs.Hands.{hands_of, most_held};
+ghost use Rattle.blk_back.specs.Keeping.{KeepsNone};
 ghost use Rattle.back_jobs.specs.Hands.{Names, HandsAfter};
 ghost use Rattle.back_jobs.specs.Part.{words_read, words_written, AsksEach, IsWithinPage, NamesPart, IsReadPart, IsWrittenPart};
 ghost use Rattle.back_jobs.specs.Sound.{StaysInPageAndDisk};
@@ -231,13 +232,14 @@ impl Backend {
     /// The words of the entry that its end of the ring copies, as single asks would name them one after another from the
     /// next one on: up to the entry's last word, or to the last one of their page where the entry goes on in the next.
     /// `None` where it copies no entry, or hasn't its first word yet, which it asks for alone, after a halt, and while
-    /// the negotiation asks for something.
+    /// the negotiation asks for something. No mapping is kept, and none may be.
     #[inline(always)]
     pub fn entry_part(&self) -> Option<SectorPart>
         ensures value { result ≡ entry_part self.now }
         ensures each { IfSome result (λ part. AsksEach part [] (asked_after self.now)) }
         ensures within { IfSome result (λ part. IsWithinPage part) }
         ensures names { IfSome result (λ part. NamesPart (hands_of self.now.ring) part) }
+        ensures unkept { IfSome result (λ part. KeepsNone self.now.ring) }
     {
         self.back.entry_part()
     }
