@@ -6,7 +6,7 @@ ghost use Rattle.job_check.specs.Verdict.{allows_step, allows_data};
 ghost use Rattle.trace_check.specs.Trace.{start, moved, seen, allows_touch, allows_fetch, broken_request, broken_move, broken_while_honest, broken_where_shown, broken_by};
 
 use crate::outline::Outline;
-use blk_base::{Move, OutOfMemory};
+use blk_base::{BackMover, Move, OutOfMemory};
 use checked_rules::Rule;
 use job_check::JobSight;
 use memory_check::Memory;
@@ -158,6 +158,7 @@ impl Trace {
 
     // The same of a line that is no move of the back's side: only what the line before left open is
     // asked of it beside memory.
+    #[inline(always)]
     fn broken_by_front(&self, line: &Line) -> Option<Rule>
         requires touches { touches_a_mapping self.now.memory line.now ≡ true }
         requires maps { answers_map self.now.memory line.now ≡ true }
@@ -177,6 +178,40 @@ impl Trace {
         }
     }
 
+    // The same of a line in which a job reads a word: nothing is asked of its answer to a map, of
+    // entries and of data.
+    #[inline(always)]
+    fn broken_by_read(&self, line: &Line) -> Option<Rule>
+        requires maps { answers_map self.now.memory line.now ≡ true }
+        requires stretches { allows_stretch self.now.ring line.now ≡ true }
+        requires words { allows_data self.now.jobs line.now ≡ true }
+        ensures { result ≡ broken_move self.now line.now }
+    {
+        if !self.memory.shows_what_is_there(line) {
+            Some(Rule::Coherent)
+        } else if !self.memory.touches_a_mapping(line) {
+            Some(Rule::Touch)
+        } else if !self.allows_job(line) {
+            Some(Rule::Fetch)
+        } else if !self.ring.allows_overrun(line) {
+            Some(Rule::Overrun)
+        } else {
+            None
+        }
+    }
+
+    // Whether what a job does in the line follows from the entries, but for data.
+    #[inline(always)]
+    fn allows_job(&self, line: &Line) -> bool
+        requires stretches { allows_stretch self.now.ring line.now ≡ true }
+        requires words { allows_data self.now.jobs line.now ≡ true }
+        ensures { result ≡ allows_fetch self.now line.now }
+    {
+        self.jobs.allows_step(line)
+            && self.jobs.allows_effect(line)
+            && self.jobs.allows_reply(&self.ring, line)
+    }
+
     // The first rule on moves that the line breaks, where moves are shown.
     fn broken_where_shown(&self, line: &Line) -> Option<Rule>
         ensures { result ≡ broken_where_shown self.now line.now }
@@ -188,6 +223,12 @@ impl Trace {
             Line::Move(Move::FrontRead { .. }) | Line::Move(Move::FrontWrite { .. }) => {
                 self.broken_by_front(line)
             }
+            Line::Move(
+                Move::Read {
+                    who: BackMover::Job(_),
+                    ..
+                },
+            ) => self.broken_by_read(line),
             _ => self.broken_move(line),
         }
     }
