@@ -132,10 +132,9 @@ first_word v narrow = let some = some_words v.shape.abi in in_slot v.shape v.rin
 
 issue_within : (v : View) (r : Request) (way : Transfer) → v.shape.order ≤ 4 → Shared r → StaysInMemory (issue_ask v r way)
 issue_within v r transfer.Read narrow shared = either_within (is_indirect r.count) (page_ask (Some r) 0) (name_ask (Some r) 0) (page_within r 0 shared) (name_within r 0 shared)
-issue_within v r (transfer.Write tag) narrow shared = data_within r 0 shared
-issue_within v r (transfer.Barrier tag) narrow shared = data_within r 0 shared
 issue_within v r transfer.Flush narrow shared = first_word v narrow
 issue_within v r (transfer.Discard sectors) narrow shared = first_word v narrow
+issue_within v r other narrow shared = data_within r 0 shared
 
 -- while a request is issued
 next_page_within : (v : View) (n : ℕ) (r : Option Request) → All Shared v.requests → next_request v ≡ r → StaysInMemory (page_ask r n)
@@ -233,10 +232,9 @@ entered_kept v r s p f = record { order = f.order; placed = p; shared = f.shared
 
 begun_kept : (v : View) (r : Request) (way : Transfer) → IsFront v → IsFront (begun v r way)
 begun_kept v r transfer.Read f = at_stage _ v (either_stage (is_indirect r.count) (stage.Pages 1) (stage.GrantFence 0) v.shape (λ t. tt) (λ t. tt)) f
-begun_kept v r (transfer.Write tag) f = at_stage (stage.Data 1) v tt f
-begun_kept v r (transfer.Barrier tag) f = at_stage (stage.Data 1) v tt f
 begun_kept v r transfer.Flush f = entered_kept v r (stage.Slot 1) (some_words v.shape.abi) f
 begun_kept v r (transfer.Discard sectors) f = entered_kept v r (stage.Slot 1) (some_words v.shape.abi) f
+begun_kept v r other f = at_stage (stage.Data 1) v tt f
 
 loop_kept : (v : View) (r : Option Request) (x : FrontAnswer) → IsFront v → next_request v ≡ r → IsFront (loop_step v r x)
 loop_kept v (Some r) x f e = begun_kept v r r.transfer f
@@ -386,8 +384,7 @@ in_state_kept (state.Agreed order) v may f = record {
 in_state_kept (state.Connected offers) v may f = record { order = f.order; placed = tt; shared = f.shared; ending = f.ending; pool = f.pool }
 in_state_kept state.Closing v may f = record { order = f.order; placed = f.placed; shared = f.shared; ending = f.ending; pool = f.pool }
 in_state_kept state.Leaving v may f = at_stage _ v (pow_pos v.shape.order) f
-in_state_kept state.Closed v may f = at_stage _ v tt f
-in_state_kept (state.Broken word) v may f = at_stage _ v tt f
+in_state_kept other v may f = at_stage _ v tt f
 
 pub front_entered : (s : FrontState) (v : View) → IsFront v → IsFront (enters s v)
 front_entered s v f = enters_cases (λ x shown. IsFront x) s v (λ may. in_state_kept s v may f) f

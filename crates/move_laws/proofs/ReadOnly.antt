@@ -122,8 +122,7 @@ begun_reads number (Direct code count device id sector segments) size info u = b
     by_verdict n (verdict.Serve plan) read =
         either_reads (nat_le n 2) (moving number (request n) size (not (n == 0)) sector (take count segments)) _ (λ few. (read few, tt))
         (either_reads (n == 3) (frameless number (request n) size sector job.Flush) (ended number (request n) size (job.Done Error)) (λ flush. (refl, tt)) (refl, tt))
-    by_verdict n (verdict.Error why) read = (refl, tt)
-    by_verdict n verdict.Unsupported read = (refl, tt)
+    by_verdict n other read = (refl, tt)
 
     by_code : (n : ℕ) → Reads (begun number (Direct n count device id sector segments) size (verdict_of (Direct n count device id sector segments) info))
     by_code zero = by_verdict 0 (verdict_of (request 0) info) (λ few. refl)
@@ -141,8 +140,7 @@ begun_reads number (Indirect code count device id sector pages) size info u = by
 
     by_verdict : (v : Verdict) → Reads (begun number (request 0) size v)
     by_verdict (verdict.Serve plan) = either_reads (nat_le count 960) (paging number (request 0) size false sector count pages) (ended number (request 0) size (job.Done Error)) (λ few. (refl, tt)) (refl, tt)
-    by_verdict (verdict.Error why) = (refl, tt)
-    by_verdict verdict.Unsupported = (refl, tt)
+    by_verdict other = (refl, tt)
 
     refused : (n : ℕ) (w : Why) (b : Bool) → Reads (begun number (request n) size (if b then verdict.Unsupported else verdict.Error w))
     refused n w true = (refl, tt)
@@ -250,8 +248,7 @@ world_stays w h o = o
 -- no call changes what the disk holds
 none_called : (outcome : Outcome) (a b : DiskSeen) → NoCall outcome a b → b.content ≡ a.content
 none_called Took a b same = ap (λ (d : DiskSeen). d.content) same
-none_called (Gave words) a b none = absurd none
-none_called Failed a b none = absurd none
+none_called other a b none = absurd none
 
 map_called : (rest : List Segment) (outcome : Outcome) (a b : DiskSeen) → DiskDoes (map_ask rest false) outcome a b → b.content ≡ a.content
 map_called [] outcome a b does = none_called outcome a b does

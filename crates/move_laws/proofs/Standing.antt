@@ -1,5 +1,5 @@
 -- The mappings that a report knows, where they are those that live.
-use Rattle.std.proofs.Common.{◌≡◌, ℕ, ◌==◌, ◌&&◌, not, Bool, true, false, cond, List, [], ◌∷◌, map, filter, count_by, refl, ap, ◌∙◌, arith}
+use Rattle.std.proofs.Common.{◌≡◌, ℕ, ◌+◌, ◌==◌, ◌&&◌, not, Bool, true, false, cond, List, [], ◌∷◌, map, filter, count_by, refl, ap, ◌∙◌, arith}
 use Rattle.std.specs.Prelude.{option_map}
 use Rattle.std.proofs.lemmas.Bool.Decides.{nat_tests}
 use Rattle.std.proofs.lemmas.List.Sums.{sum_by-cons}
@@ -45,30 +45,19 @@ count_map {X} {Y} f p (x ∷ xs) =
 
 count_filter : {X : Type 0} (p q : X → Bool) (xs : List X) → count_by (λ (x : X). p x && q x) xs ≡ count_by p (filter q xs)
 count_filter p q [] = refl
-count_filter {X} p q (x ∷ xs) = by_tests (p x) (q x) refl refl (count_filter p q xs)
+count_filter {X} p q (x ∷ xs) = sum_by-cons (λ (y : X). cond (p y && q y) 1 0) x xs ∙ (ap (λ (n : ℕ). cond (p x && q x) 1 0 + n) (count_filter p q xs) ∙ by_tests (p x) (q x) refl (filter q xs))
   where
-    by_tests : (a b : Bool) → p x ≡ a → q x ≡ b → count_by (λ (y : X). p y && q y) xs ≡ count_by p (filter q xs) → count_by (λ (y : X). p y && q y) (x ∷ xs) ≡ count_by p (filter q (x ∷ xs))
-    by_tests a true s t rest =
-        let one = sum_by-cons (λ (y : X). cond (p y && q y) 1 0) x xs in
-        let other = sum_by-cons (λ (y : X). cond (p y) 1 0) x (filter q xs) in
-        let here : ◌≡◌ {A = ℕ} (cond (p x && q x) 1 0) (cond (p x) 1 0) = rw t (both (p x)) in
-        let kept : filter q (x ∷ xs) ≡ x ∷ filter q xs = rw t refl in
-        let counted : count_by p (filter q (x ∷ xs)) ≡ count_by p (x ∷ filter q xs) = ap (λ (ys : List X). count_by p ys) kept in
-        omega arith
-      where
-        both : (c : Bool) → ◌≡◌ {A = ℕ} (cond (c && true) 1 0) (cond c 1 0)
-        both true = refl
-        both false = refl
-    by_tests a false s t rest =
-        let one = sum_by-cons (λ (y : X). cond (p y && q y) 1 0) x xs in
-        let none : ◌≡◌ {A = ℕ} (cond (p x && q x) 1 0) 0 = rw t (neither (p x)) in
-        let kept : filter q (x ∷ xs) ≡ filter q xs = rw t refl in
-        let counted : count_by p (filter q (x ∷ xs)) ≡ count_by p (filter q xs) = ap (λ (ys : List X). count_by p ys) kept in
-        omega arith
-      where
-        neither : (c : Bool) → ◌≡◌ {A = ℕ} (cond (c && false) 1 0) 0
-        neither true = refl
-        neither false = refl
+    by_tests : (a b : Bool) → p x ≡ a → (ys : List X) → cond (a && b) 1 0 + count_by p ys ≡ count_by p (cond b (x ∷ ys) ys)
+    by_tests true true e ys =
+        let one = sum_by-cons (λ (y : X). cond (p y) 1 0) x ys in
+        let here : ◌≡◌ {A = ℕ} (cond (p x) 1 0) 1 = rw e refl in
+        let all : 1 + count_by p ys ≡ count_by p (x ∷ ys) = omega arith in all
+    by_tests false true e ys =
+        let one = sum_by-cons (λ (y : X). cond (p y) 1 0) x ys in
+        let here : ◌≡◌ {A = ℕ} (cond (p x) 1 0) 0 = rw e refl in
+        let all : 0 + count_by p ys ≡ count_by p (x ∷ ys) = omega arith in all
+    by_tests true false e ys = let all : 0 + count_by p ys ≡ count_by p ys = omega arith in all
+    by_tests false false e ys = let all : 0 + count_by p ys ≡ count_by p ys = omega arith in all
 
 and_assoc : (a b c : Bool) → (a && b && c) ≡ ((a && b) && c)
 and_assoc true b c = refl

@@ -35,11 +35,7 @@ job_order order w number (Some a) is = is
 
 entered : (order : ℕ) (s : FrontState) (v : front.View) → IsWished order (FrontEnters s) → v.shape.order ≡ order → (let x : front.View = in_state s v in x.shape.order ≡ order)
 entered order (state.Agreed agreed) v wished is = wished
-entered order (state.Connected offers) v wished is = is
-entered order state.Closing v wished is = is
-entered order state.Leaving v wished is = is
-entered order state.Closed v wished is = is
-entered order (state.Broken word) v wished is = is
+entered order other v wished is = is
 
 pub order_happens : (order : ℕ) (w : World) (h : Happening) → IsWished order h → HasOrder order w → HasOrder order (happens w h)
 order_happens order w FrontMoves wished is = front_order order w (front_turn w) is

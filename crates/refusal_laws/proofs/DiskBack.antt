@@ -76,8 +76,7 @@ more_still false = refl
 
 acted_kept : (act : BackAction) (v : BackView) → Kept v (acted act v)
 acted_kept action.Nothing v = record { still = refl; state = refl }
-acted_kept action.Connect v = record { still = refl; state = refl }
-acted_kept (action.Halt reason) v = record { still = refl; state = refl }
+acted_kept other v = record { still = refl; state = refl }
 
 early_still : (b : BackBusStage) → IsEarly b → is_still b ≡ true
 early_still (stage.ReadKey k) early = refl

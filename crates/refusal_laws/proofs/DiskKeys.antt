@@ -148,15 +148,10 @@ set_said f e d k = back_said d.keys f e k
 
 -- a feature is neither of the disk's
 other_text : (d : Directory) (k : BackKey) (text : List ℕ) → IsFeature k → key_of (written d (path_under end.Back (back_name k)) text).keys (back_path key.Sectors) ≡ key_of d.keys (back_path key.Sectors)
-other_text d key.FeatureBarrier text is = key_kept d.keys (back_path key.FeatureBarrier) text (back_path key.Sectors) refl
-other_text d key.FeatureFlushCache text is = key_kept d.keys (back_path key.FeatureFlushCache) text (back_path key.Sectors) refl
-other_text d key.FeatureDiscard text is = key_kept d.keys (back_path key.FeatureDiscard) text (back_path key.Sectors) refl
-other_text d key.FeaturePersistent text is = key_kept d.keys (back_path key.FeaturePersistent) text (back_path key.Sectors) refl
-other_text d key.FeatureMaxIndirectSegments text is = key_kept d.keys (back_path key.FeatureMaxIndirectSegments) text (back_path key.Sectors) refl
-other_text d key.MaxRingPageOrder text is = key_kept d.keys (back_path key.MaxRingPageOrder) text (back_path key.Sectors) refl
 other_text d key.Sectors text is = absurd is
 other_text d key.SectorSize text is = absurd is
 other_text d key.Info text is = absurd is
+other_text d other text is = key_kept d.keys (back_path other) text (back_path key.Sectors) refl
 
 pub feature_whole : (f : Features) (e : DiskFacts) (d : Directory) (k : BackKey) → IsFeature k → IsWhole f e d → IsWhole f e (written d (path_under end.Back (back_name k)) (text_of (back_value f e k)))
 feature_whole f e d k is (inl none) = inl (other_text d k (text_of (back_value f e k)) is ∙ none)

@@ -28,6 +28,7 @@ use Rattle.xenbus_state.specs.FrontStep.{at, acted, after_feature, feature_step,
 use Rattle.negotiation_laws.proofs.Shown.{is_four}
 use Rattle.vbd_front.specs.Step.{settled_at, bus_told}
 use Rattle.vbd_model.specs.Fit.{FrontGoesWith}
+use Rattle.negotiation_laws.proofs.Choices.{either}
 use Rattle.vbd_laws.proofs.FitFrontBus.{due_cases}
 
 -- what the front has read of the disk is so
@@ -77,25 +78,18 @@ module _ (late said : Type 0) (e : DiskFacts) where
   connects_late own closing idle (Some state.InitWait) connected ends is = absurd (either_connects (closing && idle) own is)
   connects_late own closing idle (Some state.Closed) connected ends is = absurd (gone_connects idle 6 is)
   connects_late own closing idle (Some state.Unknown) connected ends is = absurd (gone_connects idle 0 is)
-  connects_late own closing idle (Some state.Initialising) connected ends (inl is) = absurd (cc)
   connects_late own closing idle (Some state.Initialising) connected ends (inr is) = absurd (cc)
-  connects_late own closing idle (Some state.Initialised) connected ends (inl is) = absurd (cc)
   connects_late own closing idle (Some state.Initialised) connected ends (inr is) = absurd (cc)
-  connects_late own closing idle (Some state.Reconfiguring) connected ends (inl is) = absurd (cc)
   connects_late own closing idle (Some state.Reconfiguring) connected ends (inr is) = absurd (cc)
-  connects_late own closing idle (Some state.Reconfigured) connected ends (inl is) = absurd (cc)
   connects_late own closing idle (Some state.Reconfigured) connected ends (inr is) = absurd (cc)
   connects_late own closing idle None connected ends (inl is) = absurd (cc)
   connects_late own closing idle None connected ends (inr is) = absurd (cc)
+  connects_late own closing idle (Some other) connected ends (inl is) = absurd (cc)
 
   acted_knows : (act : FrontAction) (v : FrontView) → ((act ≡ action.Connect) ⊎ (act ≡ action.CloseAndConnect) → late) → Knows (acted act v)
-  acted_knows action.Nothing v is = tt
-  acted_knows action.Publish v is = tt
   acted_knows action.Connect v is = is (inl refl)
-  acted_knows action.Close v is = tt
   acted_knows action.CloseAndConnect v is = is (inr refl)
-  acted_knows action.Leave v is = tt
-  acted_knows (action.Break word) v is = tt
+  acted_knows other v is = tt
 
   feature_next : (k : Option BackKey) (r : DiskFacts) → DiskAt late said e (after_feature k) r
   feature_next None r = tt
@@ -119,10 +113,6 @@ module _ (late said : Type 0) (e : DiskFacts) where
   info_known None v shows is = tt
   info_known (Some n) v shows is = (is.2, ap (λ (m : ℕ). m == 4) (same_Some n (if e.read_only then 4 else 0) (shows is.1)) ∙ is_four e.read_only)
 
-  either_knows : (b : Bool) (s t : FrontBusStage) (r : DiskFacts) → DiskAt late said e s r → DiskAt late said e t r → DiskAt late said e (if b then s else t) r
-  either_knows true s t r p q = p
-  either_knows false s t r p q = q
-
   published_knows : (k : Option FrontKey) (r : DiskFacts) → DiskAt late said e (after_published k) r
   published_knows None r = tt
   published_knows (Some k) r = tt
@@ -137,10 +127,10 @@ module _ (late said : Type 0) (e : DiskFacts) where
 
   after_knows : (s : FrontBusStage) (v : FrontView) → DiskAt late said e s v.disk → DiskAt late said e (after s v) v.disk
   after_knows stage.Start v is = tt
-  after_knows (stage.RingWord word) v is = either_knows (word == 15) (stage.Grant 0) (stage.RingWord (word + 1)) v.disk tt tt
-  after_knows (stage.Grant page) v is = either_knows (nat_lt (page + 1) (pages_of v)) (stage.Grant (page + 1)) stage.NewPort v.disk tt tt
+  after_knows (stage.RingWord word) v is = either (λ (one : FrontBusStage). DiskAt late said e one v.disk) (word == 15) (stage.Grant 0) (stage.RingWord (word + 1)) tt tt
+  after_knows (stage.Grant page) v is = either (λ (one : FrontBusStage). DiskAt late said e one v.disk) (nat_lt (page + 1) (pages_of v)) (stage.Grant (page + 1)) stage.NewPort tt tt
   after_knows (stage.Publish k) v is = published_knows (next_published (ring_order v) k) v.disk
-  after_knows (stage.EndGrant page) v is = either_knows (nat_lt (page + 1) (pages_of v)) (stage.EndGrant (page + 1)) stage.EndOtherGrants v.disk tt tt
+  after_knows (stage.EndGrant page) v is = either (λ (one : FrontBusStage). DiskAt late said e one v.disk) (nat_lt (page + 1) (pages_of v)) (stage.EndGrant (page + 1)) stage.EndOtherGrants tt tt
   after_knows stage.EndOtherGrants v is = grants_know v.port v.disk
   after_knows s v is = is
 
@@ -174,8 +164,6 @@ module _ (late said : Type 0) (e : DiskFacts) where
   shows_done : (s : FrontBusStage) (v : FrontView) (idle : Bool) → ShowsAt late said e v idle s answer.Done
   shows_done (stage.ReadFact key.Sectors) v idle = tt
   shows_done (stage.ReadFact key.Info) v idle = tt
-  shows_done (stage.ReadFact k) v idle = tt
-  shows_done stage.ReadState v idle = tt
   shows_done s v idle = tt
 
   settled_knows : (b : FrontBusAsk) (u : FrontView) (idle : Bool) → Knows u → Knows (settled_at b idle u)

@@ -42,15 +42,11 @@ use Rattle.refusal_laws.proofs.DiskSaid.{GoesWith, IsLate, Next, Goes, still_nex
 
 module _ (f : Features) (e : DiskFacts) where
   feature_next : (d : Directory) (k : BackKey) → IsFeature k → IsWhole f e d → FactsAt f e d (after_feature (next_feature k))
-  feature_next d key.FeatureBarrier is whole = (tt, whole)
-  feature_next d key.FeatureFlushCache is whole = (tt, whole)
-  feature_next d key.FeatureDiscard is whole = (tt, whole)
-  feature_next d key.FeaturePersistent is whole = (tt, whole)
-  feature_next d key.FeatureMaxIndirectSegments is whole = (tt, whole)
   feature_next d key.MaxRingPageOrder is whole = whole
   feature_next d key.Sectors is whole = absurd is
   feature_next d key.SectorSize is whole = absurd is
   feature_next d key.Info is whole = absurd is
+  feature_next d other is whole = (tt, whole)
 
   fact_next : (d : Directory) (k : BackKey) → IsFact k → FactsAt f e d (stage.PublishFact k) → FactsAt f e (written d (path_under end.Back (back_name k)) (text_of (back_value f e k))) (after_fact (next_fact k))
   fact_next d key.Sectors is facts = set_said f e d key.Sectors
@@ -60,9 +56,6 @@ module _ (f : Features) (e : DiskFacts) where
 
   state_next : (d : Directory) (s : BusState) (text : List ℕ) → FactsAt f e d (stage.WriteState s) → FactsAt f e (written d back_state text) (after_state s)
   state_next d state.Connected text said = inr (record { sectors = state_texts d text f e key.Sectors said.sectors; info = state_texts d text f e key.Info said.info })
-  state_next d state.InitWait text whole = state_whole d text f e whole
-  state_next d state.Closing text whole = state_whole d text f e whole
-  state_next d state.Closed text whole = state_whole d text f e whole
   state_next d s text whole = state_whole d text f e whole
 
 -- what is said stays said

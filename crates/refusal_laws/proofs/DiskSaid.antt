@@ -100,8 +100,6 @@ wrote s a path text d e turns may = ap (λ (m : KeyMove). negotiated s end.Back 
 -- it goes on as it is where no other mapping is to be unmapped
 pub state_settles : (s : BusState) (r : BackStage) (u : BackView) → u.stage ≡ after_state s → back_step.settled r u ≡ u
 state_settles state.InitWait r u here = ap (λ (b : BackBusStage). back_step.settled_at b r u) here
-state_settles state.Closing r u here = ap (λ (b : BackBusStage). back_step.settled_at b r u) here
-state_settles state.Closed r u here = ap (λ (b : BackBusStage). back_step.settled_at b r u) here
 state_settles s r u here = ap (λ (b : BackBusStage). back_step.settled_at b r u) here
 
 pub fact_settles : (k : Option BackKey) (r : BackStage) (u : BackView) → u.stage ≡ after_fact k → back_step.settled r u ≡ u

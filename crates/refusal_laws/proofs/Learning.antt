@@ -37,6 +37,7 @@ use Rattle.vbd_front.specs.Step.{settled_at, bus_told}
 use Rattle.vbd_model.specs.World.{World, frontend_of}
 use Rattle.vbd_model.specs.Happening.{front_turn, front_bus_after}
 use Rattle.vbd_model.specs.Fit.{SaysKey, IsServiceSaid, ReadsOffer, IsFit}
+use Rattle.negotiation_laws.proofs.Choices.{either}
 use Rattle.vbd_laws.proofs.FitFrontBus.{due_cases}
 use Rattle.vbd_laws.proofs.FitFrontMoves.{left_starts}
 use Rattle.vbd_laws.proofs.FitFrontReads.{followed_is, waited_is}
@@ -97,21 +98,14 @@ module _ (f : Features) where
   feature_knows key.FeatureBarrier (Some n) v shown is = is_set n f.barrier shown
   feature_knows key.FeatureFlushCache (Some n) v shown is = (is, is_set n f.flush shown)
   feature_knows key.FeatureDiscard (Some n) v shown is = (is.0, is.1, is_set n f.discard shown)
-  feature_knows key.FeaturePersistent (Some n) v shown is = is
   feature_knows key.FeatureMaxIndirectSegments (Some n) v shown is = record { barrier = is.0; flush = is.1; discard = is.2; indirect = same_Some n f.indirect shown }
   feature_knows key.MaxRingPageOrder (Some n) v shown is = record { barrier = is.barrier; flush = is.flush; discard = is.discard; indirect = is.indirect }
-  feature_knows key.Sectors (Some n) v shown is = is
-  feature_knows key.SectorSize (Some n) v shown is = is
-  feature_knows key.Info (Some n) v shown is = is
+  feature_knows other (Some n) v shown is = is
 
   acted_knows : (act : FrontAction) (v : FrontView) → (IsSome v.port → AreKnown v.features f) → Knows (acted act v)
-  acted_knows action.Nothing v is = is
   acted_knows action.Publish v is = tt
-  acted_knows action.Connect v is = is
-  acted_knows action.Close v is = is
-  acted_knows action.CloseAndConnect v is = is
-  acted_knows action.Leave v is = is
   acted_knows (action.Break word) v is = tt
+  acted_knows other v is = is
 
   fact_next : (k : Option BackKey) (r : Features) (port : Option ℕ) → (IsSome port → AreKnown r f) → KnowsAt f (after_fact k) r port
   fact_next None r port is = is
@@ -125,10 +119,6 @@ module _ (f : Features) where
   written_knows state.Closed r port is = is
   written_knows s r port is = is
 
-  either_knows : (b : Bool) (d g : FrontBusStage) (r : Features) (port : Option ℕ) → KnowsAt f d r port → KnowsAt f g r port → KnowsAt f (if b then d else g) r port
-  either_knows true d g r port p q = p
-  either_knows false d g r port p q = q
-
   published_knows : (k : Option FrontKey) (r : Features) (port : Option ℕ) → (IsSome port → AreKnown r f) → KnowsAt f (after_published k) r port
   published_knows None r port is = is
   published_knows (Some k) r port is = is
@@ -139,10 +129,10 @@ module _ (f : Features) where
 
   after_knows : (d : FrontBusStage) (v : FrontView) → KnowsAt f d v.features v.port → KnowsAt f (after d v) v.features v.port
   after_knows stage.Start v is = is
-  after_knows (stage.RingWord word) v is = either_knows (word == 15) (stage.Grant 0) (stage.RingWord (word + 1)) v.features v.port is is
-  after_knows (stage.Grant page) v is = either_knows (nat_lt (page + 1) (pages_of v)) (stage.Grant (page + 1)) stage.NewPort v.features v.port is is
+  after_knows (stage.RingWord word) v is = either (λ (one : FrontBusStage). KnowsAt f one v.features v.port) (word == 15) (stage.Grant 0) (stage.RingWord (word + 1)) is is
+  after_knows (stage.Grant page) v is = either (λ (one : FrontBusStage). KnowsAt f one v.features v.port) (nat_lt (page + 1) (pages_of v)) (stage.Grant (page + 1)) stage.NewPort is is
   after_knows (stage.Publish k) v is = published_knows (next_published (ring_order v) k) v.features v.port is
-  after_knows (stage.EndGrant page) v is = either_knows (nat_lt (page + 1) (pages_of v)) (stage.EndGrant (page + 1)) stage.EndOtherGrants v.features v.port is is
+  after_knows (stage.EndGrant page) v is = either (λ (one : FrontBusStage). KnowsAt f one v.features v.port) (nat_lt (page + 1) (pages_of v)) (stage.EndGrant (page + 1)) stage.EndOtherGrants is is
   after_knows stage.EndOtherGrants v is = grants_know v.port v.features v.port is
   after_knows d v is = is
 

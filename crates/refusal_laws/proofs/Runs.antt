@@ -149,10 +149,7 @@ aside_front w h aside = refl
 meant : (config : Options) (w : World) (s : FrontState) → IsPossible w (FrontEnters s) → IsServing config (FrontEnters s) → IsMeant config w.front s
 meant config w (state.Agreed order) may serves = may
 meant config w (state.Connected offers) may serves = serves
-meant config w state.Closing may serves = tt
-meant config w state.Leaving may serves = tt
-meant config w state.Closed may serves = tt
-meant config w (state.Broken word) may serves = tt
+meant config w other may serves = tt
 
 at_end : {X : Type 0} (done rest : List X) (x : X) → slice_get (done ++ x ∷ rest) (length done) ≡ Some x
 at_end [] rest x = refl

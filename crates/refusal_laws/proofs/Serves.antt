@@ -132,9 +132,7 @@ module _ (config : Options) (w : World) (h : Serves config w) where
   news_know : (offers : Offers) (n : Option FrontNews) (b : FrontBusAsk) (order : ℕ) → (n ≡ Some news.Ready → AreOffered config offers) → AllByRecursion (IsKnowing config) (front_step.states_entered offers n b order)
   news_know offers None b order ready = due_know b order
   news_know offers (Some news.Ready) b order ready = (ready refl, due_know b order)
-  news_know offers (Some news.Closing) b order ready = (tt, due_know b order)
-  news_know offers (Some news.Closed) b order ready = (tt, due_know b order)
-  news_know offers (Some (news.Broken word)) b order ready = (tt, due_know b order)
+  news_know offers (Some other) b order ready = (tt, due_know b order)
 
   entered_know : (act : Option FrontAct) → AllByRecursion (IsKnowing config) (entered_at w act)
   entered_know None = tt

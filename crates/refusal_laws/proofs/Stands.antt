@@ -139,10 +139,7 @@ pub told_end : (way : Transfer) (sector count : ℕ) (answer : Status) → is_fi
 told_end transfer.Read sector count status.Okay = refl
 told_end transfer.Read sector count status.Error = refl
 told_end transfer.Read sector count status.Unsupported = refl
-told_end (transfer.Write tag) sector count answer = refl
-told_end (transfer.Barrier tag) sector count answer = refl
-told_end transfer.Flush sector count answer = refl
-told_end (transfer.Discard sectors) sector count answer = refl
+told_end other sector count answer = refl
 
 -- and its last sector does
 pub next_end : (sector count index : ℕ) → is_finished (next_stage (submitted_job transfer.Read sector count) index) ≡ not (nat_lt (index + 1) count)

@@ -32,6 +32,7 @@ use Rattle.blk_front.specs.Step.{at, broken, looked, loop_step, entered, begun, 
 use Rattle.split_model.specs.Shown.{front_lines}
 use Rattle.machine_pipeline.proofs.Flow.{ending_at, submitted_job}
 use Rattle.vbd_front.specs.View.{is_broken}
+use Rattle.negotiation_laws.proofs.Choices.{either}
 use Rattle.refusal_laws.specs.Ruled.{asked_step}
 use Rattle.refusal_laws.proofs.Asked.{IsAsked, asked_taken, none_freed}
 use Rattle.refusal_laws.proofs.Stands.{Share, share_of, Stands, IsTelling, IsHeldAt, Keeps, breaks, with_asked, line_ends, line_tells, told_end, next_end}
@@ -85,47 +86,38 @@ module _ (config : Options) (s : Sight) (asked : List DiskRequest) (v : View) (u
   stays : Becomes v
   stays = quiet v untold keeps
 
-  either : (b : Bool) (x y : View) → Becomes x → Becomes y → Becomes (if b then x else y)
-  either true x y p q = p
-  either false x y p q = q
-
-  either_to : (b : Bool) (t u : FrontStage) → Becomes (at t v) → Becomes (at u v) → Becomes (at (if b then t else u) v)
-  either_to true t u p q = p
-  either_to false t u p q = q
-
   broke : (word : ℕ) (ready : Bool) (ending : Option Ending) → At ready ending → Becomes (broken word v)
   broke word ready ending h = (breaks config (share_of v) ready false ending s asked word h, tt)
 
   -- the producer of responses was read
   looked_goes : (word : ℕ) (other : View) → At true None → Becomes other → Becomes (looked v word other)
-  looked_goes word other h is = either _ (broken word v) _ (broke word true None h) (either (word == v.ring.indices.cons) other (record v { ring = record v.ring { seen = word }; stage = stage.Loop }) is (quiet (record v { ring = record v.ring { seen = word }; stage = stage.Loop }) untold (h, tt)))
+  looked_goes word other h is = either Becomes _ (broken word v) _ (broke word true None h) (either Becomes (word == v.ring.indices.cons) other (record v { ring = record v.ring { seen = word }; stage = stage.Loop }) is (quiet (record v { ring = record v.ring { seen = word }; stage = stage.Loop }) untold (h, tt)))
 
   -- a request is begun
   begun_goes : (r : Request) (way : Transfer) → At true None → Becomes (begun v r way)
-  begun_goes r (transfer.Write tag) h = to (stage.Data 1) h tt
-  begun_goes r (transfer.Barrier tag) h = to (stage.Data 1) h tt
-  begun_goes r transfer.Read h = either_to (is_indirect r.count) (stage.Pages 1) (stage.GrantFence 0) (to (stage.Pages 1) h tt) (to (stage.GrantFence 0) h tt)
+  begun_goes r transfer.Read h = either (λ (one : FrontStage). Becomes (at one v)) (is_indirect r.count) (stage.Pages 1) (stage.GrantFence 0) (to (stage.Pages 1) h tt) (to (stage.GrantFence 0) h tt)
   begun_goes r transfer.Flush h = quiet (entered v r (stage.Slot 1)) untold (h, tt)
   begun_goes r (transfer.Discard sectors) h = quiet (entered v r (stage.Slot 1)) untold (h, tt)
+  begun_goes r other h = to (stage.Data 1) h tt
 
   loop_goes : (next : Option Request) (answer : FrontAnswer) → At true None → Becomes (loop_step v next answer)
   loop_goes (Some r) answer h = begun_goes r r.transfer h
-  loop_goes None (Word word) h = either (responses_of v.ring.indices v.ring.seen == 0) (looked v word (record v { ring = record v.ring { seen = word }; stage = stage.StoreEvent })) (at (stage.ResponseHigh word) v)
+  loop_goes None (Word word) h = either Becomes (responses_of v.ring.indices v.ring.seen == 0) (looked v word (record v { ring = record v.ring { seen = word }; stage = stage.StoreEvent })) (at (stage.ResponseHigh word) v)
       (looked_goes word (record v { ring = record v.ring { seen = word }; stage = stage.StoreEvent }) h (quiet (record v { ring = record v.ring { seen = word }; stage = stage.StoreEvent }) untold (h, tt))) (to (stage.ResponseHigh word) h tt)
   loop_goes None Event h = quiet (record v { ring = record v.ring { asleep = false } }) untold keeps
   loop_goes None answer h = stays
 
   data_goes : (next : Option Request) (n : ℕ) → At true None → Becomes (at (data_stage next n) v)
   data_goes None n h = to (stage.Data n) h tt
-  data_goes (Some r) n h = either_to (nat_lt (n + 1) (words_in r)) (stage.Data (n + 1)) (after_data r) (to (stage.Data (n + 1)) h tt) (either_to (is_indirect r.count) (stage.Pages 0) (stage.GrantFrame 0) (to (stage.Pages 0) h tt) (to (stage.GrantFrame 0) h tt))
+  data_goes (Some r) n h = either (λ (one : FrontStage). Becomes (at one v)) (nat_lt (n + 1) (words_in r)) (stage.Data (n + 1)) (after_data r) (to (stage.Data (n + 1)) h tt) (either (λ (one : FrontStage). Becomes (at one v)) (is_indirect r.count) (stage.Pages 0) (stage.GrantFrame 0) (to (stage.Pages 0) h tt) (to (stage.GrantFrame 0) h tt))
 
   pages_go : (next : Option Request) (n : ℕ) → At true None → Becomes (at (page_stage next n) v)
   pages_go None n h = to (stage.Pages n) h tt
-  pages_go (Some r) n h = either_to (nat_lt (n + 1) (naming_words r)) (stage.Pages (n + 1)) (stage.GrantFrame 0) (to (stage.Pages (n + 1)) h tt) (to (stage.GrantFrame 0) h tt)
+  pages_go (Some r) n h = either (λ (one : FrontStage). Becomes (at one v)) (nat_lt (n + 1) (naming_words r)) (stage.Pages (n + 1)) (stage.GrantFrame 0) (to (stage.Pages (n + 1)) h tt) (to (stage.GrantFrame 0) h tt)
 
   granted_goes : (next : Option Request) (place : ℕ) → At true None → Becomes (granted next place v)
   granted_goes None place h = stays
-  granted_goes (Some r) place h = either (nat_lt (place + 1) (length r.frames.items)) (at (stage.GrantFrame (place + 1)) v) (entered v r (stage.Slot 0)) (to (stage.GrantFrame (place + 1)) h tt) (quiet (entered v r (stage.Slot 0)) untold (h, tt))
+  granted_goes (Some r) place h = either Becomes (nat_lt (place + 1) (length r.frames.items)) (at (stage.GrantFrame (place + 1)) v) (entered v r (stage.Slot 0)) (to (stage.GrantFrame (place + 1)) h tt) (quiet (entered v r (stage.Slot 0)) untold (h, tt))
 
   -- a response is taken: its request ends, or has ended where it has no frames
   module _ (place : ℕ) (r : Request) (answer : Status) (here : slice_get v.requests place ≡ Some r) (h : At true None) where
@@ -179,7 +171,7 @@ module _ (config : Options) (s : Sight) (asked : List DiskRequest) (v : View) (u
   revoked_goes : (place : ℕ) → (e : Ending) × (v.ending ≡ Some e) → At true v.ending → Becomes (revoked v.ending place v)
   revoked_goes place held h =
       subst (λ (o : Option Ending). Becomes (revoked o place v)) (sym held.1)
-      (either _ (at (stage.GrantRead (place + 1)) v) (ended held.0 v) (to (stage.GrantRead (place + 1)) h held) (ended_goes held.0 held.1 h))
+      (either Becomes _ (at (stage.GrantRead (place + 1)) v) (ended held.0 v) (to (stage.GrantRead (place + 1)) h held) (ended_goes held.0 held.1 h))
 
   -- a word of its data is read: the last one of a sector tells that, and the last one of all ends it
   module _ (e : Ending) (here : v.ending ≡ Some e) (n : ℕ) (read : e.request.transfer ≡ transfer.Read) (words : List ℕ) where
@@ -232,10 +224,10 @@ module _ (config : Options) (s : Sight) (asked : List DiskRequest) (v : View) (u
     left_goes within h false less = subst (λ (b : Bool). Becomes (at (stage.RingWord 0) (finished e (sector b)))) (sym (is_last within less)) (data_last false within less h, tt)
 
   by_stage : (t : FrontStage) (answer : FrontAnswer) → Stands config (share_of v) (is_ready t) (is_broken t) (ending_at t v.ending) s asked → IsHeldAt t v.ending → Becomes (step_at t v answer)
-  by_stage (stage.RingWord k) answer h held = either_to (k == 15) (stage.RingFrame 0) (stage.RingWord (k + 1)) (to (stage.RingFrame 0) h tt) (to (stage.RingWord (k + 1)) h tt)
+  by_stage (stage.RingWord k) answer h held = either (λ (one : FrontStage). Becomes (at one v)) (k == 15) (stage.RingFrame 0) (stage.RingWord (k + 1)) (to (stage.RingFrame 0) h tt) (to (stage.RingWord (k + 1)) h tt)
   by_stage (stage.RingFrame page) answer h held = to (stage.RingFence page) h tt
   by_stage (stage.RingFence page) answer h held = to (stage.RingFlags page) h tt
-  by_stage (stage.RingFlags page) answer h held = either_to _ (stage.RingFrame (page + 1)) stage.NewPort (to (stage.RingFrame (page + 1)) h tt) (to stage.NewPort h tt)
+  by_stage (stage.RingFlags page) answer h held = either (λ (one : FrontStage). Becomes (at one v)) _ (stage.RingFrame (page + 1)) stage.NewPort (to (stage.RingFrame (page + 1)) h tt) (to stage.NewPort h tt)
   by_stage stage.NewPort answer h held = to stage.Initialised h tt
   by_stage stage.Loop answer h held = loop_goes (next_request v) answer h
   by_stage (stage.Data n) answer h held = data_goes (next_request v) n h
@@ -243,15 +235,15 @@ module _ (config : Options) (s : Sight) (asked : List DiskRequest) (v : View) (u
   by_stage (stage.GrantFrame place) answer h held = to (stage.GrantFence place) h tt
   by_stage (stage.GrantFence place) answer h held = to (stage.GrantFlags place) h tt
   by_stage (stage.GrantFlags place) answer h held = granted_goes (next_request v) place h
-  by_stage (stage.Slot k) answer h held = either_to (k + 1 == entry_words_of v.shape.abi) stage.Producer (stage.Slot (k + 1)) (to stage.Producer h tt) (to (stage.Slot (k + 1)) h tt)
+  by_stage (stage.Slot k) answer h held = either (λ (one : FrontStage). Becomes (at one v)) (k + 1 == entry_words_of v.shape.abi) stage.Producer (stage.Slot (k + 1)) (to stage.Producer h tt) (to (stage.Slot (k + 1)) h tt)
   by_stage stage.Producer answer h held = quiet (pushed v) untold (h, tt)
   by_stage (stage.ProducerFence old) answer h held = to (stage.RequestEvent old) h tt
-  by_stage (stage.RequestEvent old) (Word event) h held = either_to (notifies old v.ring.indices.prod event) stage.Send stage.Loop (to stage.Send h tt) (to stage.Loop h tt)
+  by_stage (stage.RequestEvent old) (Word event) h held = either (λ (one : FrontStage). Becomes (at one v)) (notifies old v.ring.indices.prod event) stage.Send stage.Loop (to stage.Send h tt) (to stage.Loop h tt)
   by_stage stage.Send answer h held = to stage.Loop h tt
   by_stage (stage.ResponseHigh low) (Word high) h held = to (stage.ResponseLast low high) h tt
   by_stage (stage.ResponseLast low high) (Word last) h held = response_goes (response_of (low ∷ high ∷ last ∷ [])) low (issued v (low + high * 2 ^ 32)) (issued_is v (low + high * 2 ^ 32)) h
-  by_stage (stage.GrantRead place) (Word word) h held = either (is_mapped word) (broken word v) (at (stage.GrantEnd place word) v) (broke word true v.ending h) (to (stage.GrantEnd place word) h held)
-  by_stage (stage.GrantEnd place before) (Word word) h held = either (word == before) (revoked v.ending place v) (broken word v) (revoked_goes place held h) (broke word true v.ending h)
+  by_stage (stage.GrantRead place) (Word word) h held = either Becomes (is_mapped word) (broken word v) (at (stage.GrantEnd place word) v) (broke word true v.ending h) (to (stage.GrantEnd place word) h held)
+  by_stage (stage.GrantEnd place before) (Word word) h held = either Becomes (word == before) (revoked v.ending place v) (broken word v) (revoked_goes place held h) (broke word true v.ending h)
   by_stage (stage.ReadData n) (Word word) h held =
       subst (λ (o : Option Ending). Becomes (data_step o n word v)) (sym held.1) (read_goes held.0 held.1 n held.3 _ held.2 h (nat_lt (n + 1) (words_in held.0.request)) refl)
   by_stage (stage.LeftData n) (Word word) h held =
@@ -259,9 +251,9 @@ module _ (config : Options) (s : Sight) (asked : List DiskRequest) (v : View) (u
   by_stage stage.StoreEvent answer h held = to stage.EventFence h tt
   by_stage stage.EventFence answer h held = to stage.LookAgain h tt
   by_stage stage.LookAgain (Word word) h held = looked_goes word (record v { ring = record v.ring { seen = word; asleep = true }; stage = stage.Loop }) h (quiet (record v { ring = record v.ring { seen = word; asleep = true }; stage = stage.Loop }) untold (h, tt))
-  by_stage (stage.RingRead page) (Word word) h held = either (is_mapped word) (broken word v) (at (stage.RingEnd page word) v) (broke word false None h) (to (stage.RingEnd page word) h tt)
+  by_stage (stage.RingRead page) (Word word) h held = either Becomes (is_mapped word) (broken word v) (at (stage.RingEnd page word) v) (broke word false None h) (to (stage.RingEnd page word) h tt)
   by_stage (stage.RingEnd page before) (Word word) h held =
-      either (word == before) (at (ring_left v page) v) (broken word v) (either_to _ (stage.RingRead (page + 1)) stage.ClosePort (to (stage.RingRead (page + 1)) h tt) (to stage.ClosePort h tt)) (broke word false None h)
+      either Becomes (word == before) (at (ring_left v page) v) (broken word v) (either (λ (one : FrontStage). Becomes (at one v)) _ (stage.RingRead (page + 1)) stage.ClosePort (to (stage.RingRead (page + 1)) h tt) (to stage.ClosePort h tt)) (broke word false None h)
   by_stage stage.ClosePort answer h held = to stage.Left h tt
   by_stage t answer h held = stays
 

@@ -137,11 +137,9 @@ begun_anew start n begins cons s unmade h = absurd (cc)
 
 entered_count : (start n : ℕ) (s : FrontState) (v : View) → LedFrom s v.stage → CountsAt start n v.start v.ring.indices.cons v.stage → (let x : View = in_state s v in CountsAt start n x.start x.ring.indices.cons x.stage)
 entered_count start n (state.Agreed order) v from h = begun_anew start n v.start v.ring.indices.cons v.stage from h
-entered_count start n (state.Connected offers) v from h = whole_counts start n v.start v.ring.indices.cons v.stage from h
 entered_count start n state.Closing v from h = h
-entered_count start n state.Leaving v from h = whole_counts start n v.start v.ring.indices.cons v.stage from h
-entered_count start n state.Closed v from h = whole_counts start n v.start v.ring.indices.cons v.stage from h
 entered_count start n (state.Broken word) v from h = tt
+entered_count start n other v from h = whole_counts start n v.start v.ring.indices.cons v.stage from h
 
 -- a front that was closed or broken before this epoch: no line of it says `ready`
 record WasOver (before : List Line) (s : FrontStage) : Type 0 where
@@ -199,11 +197,7 @@ state_within s = state_lines_are (λ (line : Line). is_epoch line ≡ false) s r
 
 entered_start : (s : FrontState) (v : View) → (let x : View = in_state s v in x.start) ≡ v.start
 entered_start (state.Agreed order) v = refl
-entered_start (state.Connected offers) v = refl
-entered_start state.Closing v = refl
-entered_start state.Leaving v = refl
-entered_start state.Closed v = refl
-entered_start (state.Broken word) v = refl
+entered_start other v = refl
 
 enters_counts : (start : ℕ) (s : FrontState) (v : View) (before : List Line) → IsCountedFor start before v → IsCountedFor start (before ++ enter_lines s v) (enters s v)
 enters_counts start s v before was =

@@ -33,8 +33,7 @@ use Rattle.report_laws.proofs.BackNumbers.{HasGref, Lies, LiesAt, IsWork, IsRepl
 -- the words of a response
 response_words : (id op : ℕ) (status : Status) → id < 2 ^ 64 → op < 2 ^ 8 → AllByRecursion (λ (v : ℕ). v < 2 ^ 32) (response_words_of (record { id = id; op = op; status = status }))
 response_words id op Okay long small = (omega arith, (omega arith, (omega arith, tt)))
-response_words id op Error long small = (omega arith, (omega arith, (omega arith, tt)))
-response_words id op Unsupported long small = (omega arith, (omega arith, (omega arith, tt)))
+response_words id op other long small = (omega arith, (omega arith, (omega arith, tt)))
 
 reply_fits : (r : Reply) (i : ℕ) → IsReply r → response_word r i < 2 ^ 32
 reply_fits r i is = each_fits (response_words_of (record { id = r.id; op = r.op; status = r.status })) (response_words r.id r.op r.status is.0 is.1) i

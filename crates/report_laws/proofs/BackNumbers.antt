@@ -245,9 +245,8 @@ request_read abi words all =
     (omega arith, double_fits words at.id all, some_segments words at.segments, All-from_recursion HasGref (segments_at words at.segments 11) (grefs_fit words at.segments 11 all))
 
 named_read : (request : RawRequest) → IsRead request → (id_of request < 2 ^ 64) × (response_op request < 2 ^ 8)
-named_read (Direct op count device id sector segments) h = (h.1, h.0)
 named_read (Discard flag device id sector count) h = (h.0, omega arith)
-named_read (Indirect op count device id sector pages) h = (h.1, h.0)
+named_read other h = (h.1, h.0)
 
 begun_numbers : (number : ℕ) (request : RawRequest) (size : ℕ) (rest : List Segment) (pages : List ℕ) → size ≤ 2 ^ 64 → 1 ≤ number → number < 2 ^ 64 → IsRead request → All HasGref rest → AreWords pages
     → HasNumbers number (id_of request) (response_op request) size 0 (replicate 128 0) rest pages
@@ -283,8 +282,7 @@ served_fits number (Indirect op count device id sector pages) info plan e sized 
 
 begun_fits : (number : ℕ) (request : RawRequest) (info : DiskInfo) (v : Verdict) → verdict_of request info ≡ v → info.sectors ≤ 2 ^ 64 → 1 ≤ number → number < 2 ^ 64 → IsRead request → IsWork (begun number request info.sectors v)
 begun_fits number request info (verdict.Serve plan) e sized positive long read = served_fits number request info plan e sized positive long read
-begun_fits number request info (verdict.Error why) e sized positive long read = (bare_numbers number request info.sectors sized positive long read, tt)
-begun_fits number request info verdict.Unsupported e sized positive long read = (bare_numbers number request info.sectors sized positive long read, tt)
+begun_fits number request info other e sized positive long read = (bare_numbers number request info.sectors sized positive long read, tt)
 
 -- a job that is found is one of them
 abbrev IsWorkFound : Option Work → Type 0

@@ -47,10 +47,7 @@ granted_keeps v (Some r) place = either (nat_lt (place + 1) (length r.frames.ite
 
 begun_keeps : (v : View) (r : Request) (way : Transfer) → Keeps v (begun v r way)
 begun_keeps v r transfer.Read = refl
-begun_keeps v r (transfer.Write tag) = refl
-begun_keeps v r (transfer.Barrier tag) = refl
-begun_keeps v r transfer.Flush = refl
-begun_keeps v r (transfer.Discard sectors) = refl
+begun_keeps v r other = refl
 
 loop_keeps : (v : View) (r : Option Request) (a : FrontAnswer) → Keeps v (loop_step v r a)
 loop_keeps v (Some r) a = begun_keeps v r r.transfer
@@ -109,11 +106,7 @@ submit_keeps v job = submit_cases (Keeps v) v refl (λ wish taken. refl) job
 -- it begins to close with that line
 entered_closing : (s : FrontState) (v : View) → (let x : View = in_state s v in x.closing) ≡ true → v.closing ≡ true ⊎ Has says_closing (state_lines s)
 entered_closing state.Closing v t = inr refl
-entered_closing (state.Connected offers) v t = inl t
-entered_closing (state.Agreed order) v t = inl t
-entered_closing state.Leaving v t = inl t
-entered_closing state.Closed v t = inl t
-entered_closing (state.Broken word) v t = inl t
+entered_closing other v t = inl t
 
 pub closing_announced : IsAnnounced (λ (v : View). v.closing) says_closing
 closing_announced = record {

@@ -58,10 +58,9 @@ looked_counts start answers v word otherwise e h p =
 begun_counts : (start answers : ℕ) (v : View) (r : Request) (way : Transfer) → v.told ≡ None → v.ring.indices.cons ≡ wrapped start answers → Counts start answers (begun v r way)
 begun_counts start answers v r transfer.Read e h =
     untold start answers v.start v.ring.indices.cons v.told (if is_indirect r.count then stage.Pages 1 else stage.GrantFence 0) e (either_stage start answers v.start v.ring.indices.cons (is_indirect r.count) (stage.Pages 1) (stage.GrantFence 0) h h)
-begun_counts start answers v r (transfer.Write tag) e h = untold start answers v.start v.ring.indices.cons v.told (stage.Data 1) e h
-begun_counts start answers v r (transfer.Barrier tag) e h = untold start answers v.start v.ring.indices.cons v.told (stage.Data 1) e h
 begun_counts start answers v r transfer.Flush e h = untold start answers v.start v.ring.indices.cons v.told (stage.Slot 1) e h
 begun_counts start answers v r (transfer.Discard sectors) e h = untold start answers v.start v.ring.indices.cons v.told (stage.Slot 1) e h
+begun_counts start answers v r other e h = untold start answers v.start v.ring.indices.cons v.told (stage.Data 1) e h
 
 data_counts : (start answers begins cons : ℕ) (next : Option Request) (n : ℕ) → cons ≡ wrapped start answers → CountsAt start answers begins cons (data_stage next n)
 data_counts start answers begins cons None n h = h

@@ -82,10 +82,9 @@ issue_fits h v r transfer.Read shared entry within = by_size (is_indirect r.coun
     by_size : (b : Bool) → StaysInMemory (if b then page_ask (Some r) 0 else name_ask (Some r) 0) → FrontFits h (if b then page_ask (Some r) 0 else name_ask (Some r) 0)
     by_size true within = naming_fits r 0 shared
     by_size false within = name_fits h (Some r) 0 within
-issue_fits h v r (transfer.Write tag) shared entry within = filling_fits r.transfer 0
-issue_fits h v r (transfer.Barrier tag) shared entry within = filling_fits r.transfer 0
 issue_fits h v r transfer.Flush shared entry within = each_fits (entry_of v.shape.abi r) entry 0
 issue_fits h v r (transfer.Discard sectors) shared entry within = each_fits (entry_of v.shape.abi r) entry 0
+issue_fits h v r other shared entry within = filling_fits r.transfer 0
 
 loop_fits : (h : Hypervisor) (v : View) (next : Option Request) → AreShared v.requests → IsFit v → next_request v ≡ next → StaysInMemory (loop_ask v next) → FrontFits h (loop_ask v next)
 loop_fits h v (Some r) shared f e within =

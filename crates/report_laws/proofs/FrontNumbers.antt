@@ -93,10 +93,7 @@ words_fit r place all =
 
 operation_few : (way : Transfer) → operation_of way ≤ 5
 operation_few transfer.Read = omega arith
-operation_few (transfer.Write tag) = omega arith
-operation_few (transfer.Barrier tag) = omega arith
-operation_few transfer.Flush = omega arith
-operation_few (transfer.Discard sectors) = omega arith
+operation_few other = omega arith
 
 first_fits : (op frames : ℕ) → op ≤ 5 → frames ≤ 11 → op * 1 + (frames * 256 + 3388997632) < 2 ^ 32
 first_fits op frames small few = omega arith
@@ -283,10 +280,9 @@ granted_fits v (Some r) place entry f =
 
 begun_fits : (v : View) (r : Request) (way : Transfer) → AllByRecursion (λ (n : ℕ). n < 2 ^ 32) (entry_of v.shape.abi r) → IsFit v → IsFit (begun v r way)
 begun_fits v r transfer.Read entry f = (f.0, either_stage (is_indirect r.count) (stage.Pages 1) (stage.GrantFence 0) tt tt, f.2)
-begun_fits v r (transfer.Write tag) entry f = (f.0, tt, f.2)
-begun_fits v r (transfer.Barrier tag) entry f = (f.0, tt, f.2)
 begun_fits v r transfer.Flush entry f = entered_fits v r (stage.Slot 1) tt entry f
 begun_fits v r (transfer.Discard sectors) entry f = entered_fits v r (stage.Slot 1) tt entry f
+begun_fits v r other entry f = (f.0, tt, f.2)
 
 loop_fits : (v : View) (r : Option Request) (x : FrontAnswer) → ((y : Request) → r ≡ Some y → AllByRecursion (λ (n : ℕ). n < 2 ^ 32) (entry_of v.shape.abi y)) → IsFit v → FrontTells x → IsFit (loop_step v r x)
 loop_fits v (Some r) x entry f small = begun_fits v r r.transfer (entry r refl) f

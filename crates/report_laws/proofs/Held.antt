@@ -57,10 +57,7 @@ looked_holds v word otherwise h =
 
 begun_holds : (v : View) (r : Request) (way : Transfer) → Holds (begun v r way)
 begun_holds v r transfer.Read = either_stage (is_indirect r.count) (stage.Pages 1) (stage.GrantFence 0) v.ending refl refl
-begun_holds v r (transfer.Write tag) = refl
-begun_holds v r (transfer.Barrier tag) = refl
-begun_holds v r transfer.Flush = refl
-begun_holds v r (transfer.Discard sectors) = refl
+begun_holds v r other = refl
 
 data_holds : (r : Option Request) (n : ℕ) (ending : Option Ending) → lacks (data_stage r n) ending ≡ false
 data_holds None n ending = refl
@@ -149,11 +146,8 @@ step_holds s v a h = h
 
 entered_holds : (s : FrontState) (v : View) → Holds v → Holds (in_state s v)
 entered_holds (state.Agreed order) v h = h
-entered_holds (state.Connected offers) v h = refl
 entered_holds state.Closing v h = h
-entered_holds state.Leaving v h = refl
-entered_holds state.Closed v h = refl
-entered_holds (state.Broken word) v h = refl
+entered_holds other v h = refl
 
 -- a suspend leaves the data that are in hand
 after_holds : (s : FrontStage) (ending : Option Ending) → lacks s ending ≡ false → lacks (stage_after s) (ending_after s ending) ≡ false

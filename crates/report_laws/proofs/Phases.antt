@@ -172,10 +172,9 @@ looked_steps s v word otherwise on e p =
 begun_steps : (v : View) (r : Request) (way : Transfer) → v.told ≡ None → Steps stage.Loop (begun v r way)
 begun_steps v r transfer.Read e =
     stays stage.Loop (at (if is_indirect r.count then stage.Pages 1 else stage.GrantFence 0) v) (either_phase (is_indirect r.count) (stage.Pages 1) (stage.GrantFence 0) 2 refl refl) e
-begun_steps v r (transfer.Write tag) e = stays stage.Loop (at (stage.Data 1) v) refl e
-begun_steps v r (transfer.Barrier tag) e = stays stage.Loop (at (stage.Data 1) v) refl e
 begun_steps v r transfer.Flush e = stays stage.Loop (entered v r (stage.Slot 1)) refl e
 begun_steps v r (transfer.Discard sectors) e = stays stage.Loop (entered v r (stage.Slot 1)) refl e
+begun_steps v r other e = stays stage.Loop (at (stage.Data 1) v) refl e
 
 loop_steps : (v : View) (next : Option Request) (a : FrontAnswer) → v.told ≡ None → v.stage ≡ stage.Loop → Steps stage.Loop (loop_step v next a)
 loop_steps v (Some r) a e here = begun_steps v r r.transfer e

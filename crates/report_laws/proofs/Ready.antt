@@ -68,9 +68,7 @@ entered_ready : (s : FrontState) (v : View) (before : List Line) → (is_ready v
 entered_ready (state.Connected offers) v before was t = ap (list_any says_ready) (epoch_on (lines.Ready ∷ []) before (refl, tt)) ∙ has_later says_ready (this_epoch before) (lines.Ready ∷ []) refl
 entered_ready state.Closing v before was t = earlier before (lines.Closing ∷ []) (refl, tt) (was t)
 entered_ready (state.Agreed order) v before was t = earlier before [] tt (was t)
-entered_ready state.Leaving v before was t = absurd (true≢false (sym t))
-entered_ready state.Closed v before was t = absurd (true≢false (sym t))
-entered_ready (state.Broken word) v before was t = absurd (true≢false (sym t))
+entered_ready other v before was t = absurd (true≢false (sym t))
 
 -- a suspended front isn't connected
 suspended_unready : (v : View) → (let x : View = suspended v in is_ready x.stage) ≡ false

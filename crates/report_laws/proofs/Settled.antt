@@ -56,8 +56,7 @@ lines_settled (h ∷ history) w ends =
 recorded_settled : (detail : Detail) (line : Line) → IsSettledLine line → AllByRecursion IsSettledLine (recorded detail line)
 recorded_settled word (lines.Begin config other) is = (refl, tt)
 recorded_settled Lines (lines.Move move) is = tt
-recorded_settled Lines line is = (is, tt)
-recorded_settled Moves line is = (is, tt)
+recorded_settled other line is = (is, tt)
 
 kept_settled : (detail : Detail) (report : List Line) → AllByRecursion IsSettledLine report → AllByRecursion IsSettledLine (kept_of detail report)
 kept_settled detail [] all = tt

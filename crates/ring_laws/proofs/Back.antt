@@ -187,8 +187,7 @@ bind_refused before v x s shows stands told =
 
 pub bind_goes : (before : List Line) (h : Hypervisor) (v : View) (x : Sight) (state : PortState) → Serves 0 x v → Shows before x → ObeysRing before x.start (is_some v.halted) → v.told ≡ None → Goes x.start x.values before stage.Bind v (bind_act h v.ring.port state)
 bind_goes before h v x port.Unbound s shows stands told = serve_other before v _ _ (moves.Bind v.ring.port) x s shows stands refl refl told refl s
-bind_goes before h v x port.Closed s shows stands told = bind_refused before v x s shows stands told
-bind_goes before h v x port.Bound s shows stands told = bind_refused before v x s shows stands told
+bind_goes before h v x other s shows stands told = bind_refused before v x s shows stands told
 
 -- one word more of an entry was read
 read_on : (k word : ℕ) (x : Sight) (v : View) (now : List ℕ) → k + 1 < entry_words_of v.shape.abi → (s : Serves k x v) → now ≡ drop (entry_words_of v.shape.abi * s.count) (x.values ++ word ∷ [])

@@ -151,10 +151,7 @@ halt_by old new = halt_is IsBystander (λ why. record { plain = refl; unstepped 
 pub told_by : (t : Option BackTold) (a : BackAnswer) (old new : Option Halt) → IsBackTold t → AreBystanders (back_lines t a ++ halt_lines old new)
 told_by None a old new is = halt_by old new
 told_by (Some (told.Reply id status)) a old new is = (record { plain = refl; unstepped = refl }, halt_by old new)
-told_by (Some (told.Effect id index)) a old new is = absurd is
-told_by (Some (told.Flushed id)) a old new is = absurd is
-told_by (Some (told.Trimmed id)) a old new is = absurd is
-told_by (Some (told.Fault id index)) a old new is = absurd is
+told_by (Some other) a old new is = absurd is
 
 -- a line of the back's reads words of entries of its layout, or none
 abbrev Looks : List Line → View → BackAct → Type 0
@@ -173,8 +170,7 @@ unmap_reads before h v o a (page ∷ pages) e = of_back (Looks before v) _ a (bl
 
 bind_reads : (before : List Line) (h : Hypervisor) (v : View) (p : ℕ) (state : PortState) → Looks before v (bind_act h p state)
 bind_reads before h v p port.Unbound = blindly before v.shape.abi _ refl
-bind_reads before h v p port.Closed = blindly before v.shape.abi _ refl
-bind_reads before h v p port.Bound = blindly before v.shape.abi _ refl
+bind_reads before h v p other = blindly before v.shape.abi _ refl
 
 loop_reads : (before : List Line) (h : Hypervisor) (v : View) (o : Outcome) (a : BackAct) (r : Option Reply) (asleep none : Bool) → v.ring.asleep ≡ asleep → (requests_of v.ring.indices v.ring.seen == 0) ≡ none → ring_shape before ≡ Some v.shape → back_act h back.Back (loop_ask v r) o ≡ Some a → Looks before v a
 loop_reads before h v o a (Some r) asleep none p q shape e = of_back (Looks before v) _ a (shaped v.shape shape refl refl) e

@@ -58,8 +58,7 @@ begun_number n size (Discard flag device id sector count) (verdict.Serve plan) =
 begun_number n size (Indirect op count device id sector pages) (verdict.Serve plan) =
     let request : RawRequest = Indirect op count device id sector pages in
     number_if n (nat_le count 960) (paging n request size (not (op == 0)) sector count pages) (ended n request size (job_stage.Done Error)) refl refl
-begun_number n size r (verdict.Error why) = refl
-begun_number n size r verdict.Unsupported = refl
+begun_number n size r other = refl
 
 -- the number of the entry that was read last
 pub record IsLast (abi : Abi) (values : List ℕ) (entry : List ℕ) (fetched : ℕ) : Type 0 where

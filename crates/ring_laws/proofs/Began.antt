@@ -107,8 +107,7 @@ pub record IsJobOf (terms : Terms) (values : List ℕ) (epoch : List Line) (t : 
 
 same_id : (r : RawRequest) → id_of r ≡ job_id r
 same_id (Direct op count device id sector segments) = refl
-same_id (Discard flag device id sector count) = refl
-same_id (Indirect op count device id sector pages) = refl
+same_id other = refl
 
 -- each segment has at most 8 sectors
 few_sectors : (n : ℕ) (segments : List Segment) → AllByRecursion IsSound (take n segments) → sectors_of (take n segments) ≤ 8 * n
@@ -147,18 +146,15 @@ IsRefused v = Unit {0}
 -- nothing is done for a request that isn't served
 refused_tasks : (v : Verdict) (segments : List Segment) → IsRefused v → served_tasks false v segments ≡ []
 refused_tasks (verdict.Serve plan) segments refused = absurd refused
-refused_tasks (verdict.Error why) segments refused = refl
-refused_tasks verdict.Unsupported segments refused = refl
+refused_tasks other segments refused = refl
 
 refused_pages : (v : Verdict) (count : ℕ) (pages indirect : List ℕ) (info : DiskInfo) → IsRefused v → indirect_tasks false v count pages indirect info ≡ []
 refused_pages (verdict.Serve plan) count pages indirect info refused = absurd refused
-refused_pages (verdict.Error why) count pages indirect info refused = refl
-refused_pages verdict.Unsupported count pages indirect info refused = refl
+refused_pages other count pages indirect info refused = refl
 
 settled_as : (v : Verdict) (count : ℕ) (indirect : List ℕ) (info : DiskInfo) → IsRefused v → settled v count indirect info ≡ v
 settled_as (verdict.Serve plan) count indirect info refused = absurd refused
-settled_as (verdict.Error why) count indirect info refused = refl
-settled_as verdict.Unsupported count indirect info refused = refl
+settled_as other count indirect info refused = refl
 
 refused_plan : (request : RawRequest) (info : DiskInfo) (v : Verdict) → IsRefused v → verdict_of request info ≡ v → IsPlan request info [] (status_by v) (job_id request) (response_op request)
 refused_plan (Direct op count device id sector segments) info v refused e = record {

@@ -66,10 +66,6 @@ alone_aside work k epoch ys task moved aside w = record {
 }
 
 pub at_aside : (work : List Task) (k : ℕ) (epoch ys : List Line) (s : JobStage) (t : Work) → IsAside k ys → IsAt work k epoch s t → IsAt work k (epoch ++ ys) s t
-at_aside work k epoch ys stage.MapPage t aside at = absurd at
-at_aside work k epoch ys (stage.PageReference m) t aside at = absurd at
-at_aside work k epoch ys (stage.PageSectors m gref) t aside at = absurd at
-at_aside work k epoch ys (stage.UnmapPage m) t aside at = absurd at
 at_aside work k epoch ys stage.Map t aside at = (before_aside work k epoch ys t.rest t.disk t.moved t.writes aside at.0, at.1)
 at_aside work k epoch ys (stage.ReadWord m j) t aside at = (within_aside work k epoch ys t.rest t.within t.disk t.moved t.writes j 1 m aside at.0, at.1, at.2)
 at_aside work k epoch ys (stage.DiskWrite m) t aside at = (within_aside work k epoch ys t.rest t.within t.disk t.moved t.writes 128 1 m aside at.0, at.1)
@@ -80,6 +76,7 @@ at_aside work k epoch ys (stage.Abort m) t aside at = failed_same k epoch ys asi
 at_aside work k epoch ys stage.Flush t aside at = alone_aside work k epoch ys tasks.Flush t.moved aside at
 at_aside work k epoch ys (stage.Trim count) t aside at = alone_aside work k epoch ys (tasks.Trim t.disk count) t.moved aside at
 at_aside work k epoch ys (stage.Done status) t aside at = ending_aside work k epoch ys Okay aside ∙ at
+at_aside work k epoch ys other t aside at = absurd at
 
 -- the same sector, at another step
 pub step_on : (work : List Task) (k : ℕ) (epoch : List Line) (rest : List Segment) (within disk moved : ℕ) (writes : Bool) (j ahead next : ℕ) (m : Mapping) (shown : Move) (w : Within work k epoch rest within disk moved writes j ahead m)

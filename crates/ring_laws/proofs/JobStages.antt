@@ -69,10 +69,6 @@ unmap_aside k number = record { none = refl; calm = refl; silent = refl }
 
 pub job_goes : (work : List Task) (k : ℕ) (epoch : List Line) (h : Hypervisor) (s : JobStage) (t : Work) (o : Outcome) (a : BackAct)
     → IsAt work k epoch s t → back_act h (back.Job k) (ask_at s t) o ≡ Some a → Goes work k epoch s t a
-job_goes work k epoch h stage.MapPage t o a at e = absurd at
-job_goes work k epoch h (stage.PageReference m) t o a at e = absurd at
-job_goes work k epoch h (stage.PageSectors m gref) t o a at e = absurd at
-job_goes work k epoch h (stage.UnmapPage m) t o a at e = absurd at
 job_goes work k epoch h stage.Map t o a at e = map_asked work k epoch h t o a t.rest refl at e
 job_goes work k epoch h (stage.ReadWord m j) t o a at e = of_back (Goes work k epoch (stage.ReadWord m j) t) _ a (read_goes work k epoch t m j (frame_of h.grants m) _ at) e
 job_goes work k epoch h (stage.DiskWrite m) t Took a at e = of_back (Goes work k epoch (stage.DiskWrite m) t) _ a (take_goes work k epoch t m at) e
@@ -97,3 +93,4 @@ job_goes work k epoch h (stage.Trim count) t Took a at e = of_back (Goes work k 
 job_goes work k epoch h (stage.Trim count) t Failed a at e = of_back (Goes work k epoch (stage.Trim count) t) _ a (call_broken work k epoch (tasks.Trim t.disk count) (moves.DiskTrim k t.disk count) t.id t.moved t at (trim_call k t.disk count epoch)) e
 job_goes work k epoch h (stage.Trim count) t (Gave words) a at e = absurd (none-some a e)
 job_goes work k epoch h (stage.Done status) t o a at e = absurd (none-some a e)
+job_goes work k epoch h other t o a at e = absurd at

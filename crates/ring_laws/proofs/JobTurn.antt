@@ -69,10 +69,6 @@ map_asked epoch h k t o a [] e = absurd (none-some a e)
 map_asked epoch h k t o a (s ∷ more) e = of_back (IsSpoken epoch k stage.Map t) _ a (map_tells epoch h k t s (verdict_at h.pages s.gref (mode_of t.writes))) e
 
 job_tells : (work : List Task) (epoch : List Line) (h : Hypervisor) (k : ℕ) (s : JobStage) (t : Work) (o : Outcome) (a : BackAct) → IsAt work k epoch s t → back_act h (back.Job k) (ask_at s t) o ≡ Some a → IsSpoken epoch k s t a
-job_tells work epoch h k stage.MapPage t o a at e = absurd at
-job_tells work epoch h k (stage.PageReference m) t o a at e = absurd at
-job_tells work epoch h k (stage.PageSectors m gref) t o a at e = absurd at
-job_tells work epoch h k (stage.UnmapPage m) t o a at e = absurd at
 job_tells work epoch h k stage.Map t o a at e = map_asked epoch h k t o a t.rest e
 job_tells work epoch h k (stage.ReadWord m j) t o a at e = of_back (IsSpoken epoch k (stage.ReadWord m j) t) _ a (record { plain = refl; told = nothing refl refl }) e
 job_tells work epoch h k (stage.DiskWrite m) t Took a at e =
@@ -107,6 +103,7 @@ job_tells work epoch h k (stage.Trim count) t Failed a at e =
     of_back (IsSpoken epoch k (stage.Trim count) t) _ a (record { plain = refl; told = one _ refl (call_failed k t.id t.moved _ calls.Trim refl) (itself k) w.counted }) e
 job_tells work epoch h k (stage.Trim count) t (Gave words) a at e = absurd (none-some a e)
 job_tells work epoch h k (stage.Done status) t o a at e = absurd (none-some a e)
+job_tells work epoch h k other t o a at e = absurd at
 
 -- and of one that copies segments
 page_map_tells : (epoch : List Line) (h : Hypervisor) (k : ℕ) (t : Work) (gref : ℕ) (verdict : Result ℕ MapRefusal) → IsSpoken epoch k stage.MapPage t (map_act h (back.Job k) gref ReadOnly verdict)

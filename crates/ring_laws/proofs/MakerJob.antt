@@ -125,7 +125,6 @@ job_makes before h k stage.Map t o a old e = map_asked before h k t o a t.rest o
 job_makes before h k (stage.ReadWord m j) t o a old e = of_back (Makes before k (stage.ReadWord m j) t) _ a (still before k (stage.ReadWord m j) t _ (either (j == 127) (stage.DiskWrite m) (stage.ReadWord m (j + 1)) m refl refl) (record { same_epoch = refl; none_gone = λ n. refl; none_made = λ j. refl }) (record { unmap = tt; touch = holds_has k m (this_epoch before) old }) old) e
 job_makes before h k (stage.DiskWrite m) t Took a old e = of_back (Makes before k (stage.DiskWrite m) t) _ a (still before k (stage.DiskWrite m) t _ (next_hand (counted t) m) (record { same_epoch = refl; none_gone = λ n. refl; none_made = λ j. refl }) (record { unmap = tt; touch = tt }) old) e
 job_makes before h k (stage.DiskWrite m) t Failed a old e = of_back (Makes before k (stage.DiskWrite m) t) _ a (still before k (stage.DiskWrite m) t _ refl (record { same_epoch = refl; none_gone = λ n. refl; none_made = λ j. refl }) (record { unmap = tt; touch = tt }) old) e
-job_makes before h k (stage.DiskWrite m) t (Gave words) a old e = absurd (none-some a e)
 job_makes before h k (stage.DiskRead m) t (Gave words) a old e = of_back (Makes before k (stage.DiskRead m) t) _ a (still before k (stage.DiskRead m) t _ refl (record { same_epoch = refl; none_gone = λ n. refl; none_made = λ j. refl }) (record { unmap = tt; touch = tt }) old) e
 job_makes before h k (stage.DiskRead m) t Failed a old e = of_back (Makes before k (stage.DiskRead m) t) _ a (still before k (stage.DiskRead m) t _ refl (record { same_epoch = refl; none_gone = λ n. refl; none_made = λ j. refl }) (record { unmap = tt; touch = tt }) old) e
 job_makes before h k (stage.DiskRead m) t Took a old e = absurd (none-some a e)
@@ -135,8 +134,7 @@ job_makes before h k (stage.Unmap m) t o a old e = of_back (Makes before k (stag
 job_makes before h k (stage.Abort m) t o a old e = of_back (Makes before k (stage.Abort m) t) _ a (record { hand = holds_gone k m (this_epoch before) old; way = gives m refl refl; mine = record { unmap = holds_has k m (this_epoch before) old; touch = tt } }) e
 job_makes before h k stage.Flush t Took a old e = of_back (Makes before k stage.Flush t) _ a (still before k stage.Flush t _ refl (record { same_epoch = refl; none_gone = λ n. refl; none_made = λ j. refl }) (record { unmap = tt; touch = tt }) old) e
 job_makes before h k stage.Flush t Failed a old e = of_back (Makes before k stage.Flush t) _ a (still before k stage.Flush t _ refl (record { same_epoch = refl; none_gone = λ n. refl; none_made = λ j. refl }) (record { unmap = tt; touch = tt }) old) e
-job_makes before h k stage.Flush t (Gave words) a old e = absurd (none-some a e)
 job_makes before h k (stage.Trim count) t Took a old e = of_back (Makes before k (stage.Trim count) t) _ a (still before k (stage.Trim count) t _ refl (record { same_epoch = refl; none_gone = λ n. refl; none_made = λ j. refl }) (record { unmap = tt; touch = tt }) old) e
 job_makes before h k (stage.Trim count) t Failed a old e = of_back (Makes before k (stage.Trim count) t) _ a (still before k (stage.Trim count) t _ refl (record { same_epoch = refl; none_gone = λ n. refl; none_made = λ j. refl }) (record { unmap = tt; touch = tt }) old) e
-job_makes before h k (stage.Trim count) t (Gave words) a old e = absurd (none-some a e)
 job_makes before h k (stage.Done status) t o a old e = absurd (none-some a e)
+job_makes before h k other t (Gave words) a old e = absurd (none-some a e)

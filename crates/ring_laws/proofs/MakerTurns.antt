@@ -73,8 +73,7 @@ begun_empty n (Discard flag device id sector count) size (verdict.Serve plan) = 
 begun_empty n (Indirect op count device id sector pages) size (verdict.Serve plan) =
     let request : RawRequest = Indirect op count device id sector pages in
     either_empty (nat_le count 960) (paging n request size (not (op == 0)) sector count pages) (ended n request size (stage.Done Error)) refl refl
-begun_empty n request size (verdict.Error why) = refl
-begun_empty n request size verdict.Unsupported = refl
+begun_empty n request size other = refl
 
 -- of a number that no line has
 begun_made : (epoch : List Line) (fetched : ℕ) (t : Work) → t.number ≡ (fetched + 1) % 2 ^ 64 → mapping_at t.stage ≡ None → fetched < 2 ^ 64 → 1 ≤ t.number → list_any (is_of (fetched + 1)) epoch ≡ false → IsMadeBy epoch t

@@ -141,10 +141,7 @@ effect_unstepped k id index a = refl
 told_unstepped : (k : ℕ) (told : Option BackTold) (a : BackAnswer) → list_any (is_of k) (back_lines told a) ≡ false
 told_unstepped k None a = refl
 told_unstepped k (Some (back_told.Effect id index)) a = ap (λ (b : Bool). b || false) (effect_unstepped k id index a)
-told_unstepped k (Some (back_told.Flushed id)) a = refl
-told_unstepped k (Some (back_told.Trimmed id)) a = refl
-told_unstepped k (Some (back_told.Fault id index)) a = refl
-told_unstepped k (Some (back_told.Reply id status)) a = refl
+told_unstepped k (Some other) a = refl
 
 -- a move of a job, and the lines after it, that obey the rules
 pub move_idle : (before : List Line) (shown : Move) (told : Option BackTold) (a : BackAnswer) → Obeys IsRule (before ++ lines.Move shown ∷ back_lines told a) → AreIdle before (lines.Move shown ∷ back_lines told a)

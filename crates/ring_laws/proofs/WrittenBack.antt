@@ -125,8 +125,7 @@ map_writes before h v x answered k (Err refusal) none shows told w =
 
 bind_writes : (before : List Line) (h : Hypervisor) (v : View) (answered : List Answered) (k : ℕ) (state : PortState) → v.told ≡ None → Writes before stage.Bind answered → BackWrites before stage.Bind answered k v (bind_act h v.ring.port state)
 bind_writes before h v answered k port.Unbound told w = quiet before answered stage.Bind v _ (moves.Bind v.ring.port) _ w refl (passes_other (lines.Move (moves.Bind v.ring.port)) refl refl) told refl
-bind_writes before h v answered k port.Closed told w = quiet before answered stage.Bind v _ (moves.BindRefused v.ring.port) _ w refl (passes_other (lines.Move (moves.BindRefused v.ring.port)) refl refl) told (unbound_nothing v.pages)
-bind_writes before h v answered k port.Bound told w = quiet before answered stage.Bind v _ (moves.BindRefused v.ring.port) _ w refl (passes_other (lines.Move (moves.BindRefused v.ring.port)) refl refl) told (unbound_nothing v.pages)
+bind_writes before h v answered k other told w = quiet before answered stage.Bind v _ (moves.BindRefused v.ring.port) _ w refl (passes_other (lines.Move (moves.BindRefused v.ring.port)) refl refl) told (unbound_nothing v.pages)
 
 -- a word is read, whatever the back makes of it
 read_writes : (before : List Line) (answered : List Answered) (s : BackStage) (old : View) (answer : BackAnswer) (number frame word value : ℕ) (new : View) → Writes before s answered → under_way s ≡ [] → new.told ≡ None → under_way new.stage ≡ [] → MoveWrites before answered s old answer (moves.Read back.Back number frame word value) new

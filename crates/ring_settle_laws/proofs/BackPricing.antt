@@ -48,16 +48,14 @@ moving_left false way number size r e some shaped =
     omega (arith, many, begun_moving number (entry_request r) size (is_write way) r.sector (own_segments r) (omega (arith, many, least)) (own_sound r shaped))
 
 pub job_left : (way : Transfer) (number size : ℕ) (r : Request) → r.transfer ≡ way → IsShaped r → job.left_of (job_as way number size r) ≤ job_price (submitted_job way r.sector r.count)
-job_left transfer.Flush number size r is shaped = omega arith
-job_left (transfer.Discard sectors) number size r is shaped = omega arith
 job_left transfer.Read number size r is shaped = moving_left (is_indirect r.count) transfer.Read number size r refl (shaped.counted.some (ap is_moving is)) shaped
 job_left (transfer.Write tag) number size r is shaped = moving_left (is_indirect r.count) (transfer.Write tag) number size r refl (shaped.counted.some (ap is_moving is)) shaped
 job_left (transfer.Barrier tag) number size r is shaped = moving_left (is_indirect r.count) (transfer.Barrier tag) number size r refl (shaped.counted.some (ap is_moving is)) shaped
+job_left other number size r is shaped = omega arith
 
 -- which the request's station doesn't have any more
 pub worked_left : (submission : Submission) (s : JobStage) (moved : ℕ) → station_left submission (worked s moved) + job_price submission ≤ station_left submission Fetching
 worked_left submission (job_stage.Abort m) moved = omega arith
-worked_left submission (job_stage.Done status) moved = omega arith
 worked_left submission s moved = omega arith
 
 -- an index that goes on is a step further at most

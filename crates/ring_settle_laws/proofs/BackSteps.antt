@@ -62,8 +62,7 @@ module _ (w : World) (before after : ℕ) (less : after ≤ before) (a : BackAct
 
       by_state : (state : PortState) → Pays w stage.Bind (step_at stage.Bind w.back) before after (bind_act w.under w.back.ring.port state)
       by_state port.Unbound = pays_by w stage.Bind (at stage.Loop w.back) answer.Done (bound w.under.channels w.back.ring.port) before after (omega arith) (same _) (same _) less
-      by_state port.Closed = refused
-      by_state port.Bound = refused
+      by_state other = refused
 
   pub reply_high_pays : (r : Reply) → back_turn_at (stage.ReplyHigh r) w ≡ Some a → Pays w (stage.ReplyHigh r) (step_at (stage.ReplyHigh r) w.back) before after a
   reply_high_pays r e = of_act (Pays w (stage.ReplyHigh r) (step_at (stage.ReplyHigh r) w.back) before after) _ a e

@@ -25,8 +25,6 @@ words_few X32 = omega arith
 
 pub sends_few : (s : BackStage) → back_sends s ≤ 5
 sends_few (stage.ProducerFence old) = omega arith
-sends_few (stage.ResponseEvent old) = omega arith
-sends_few stage.Send = omega arith
 sends_few s = omega arith
 
 rest_few : (v : View) → rest v ≤ 4 + owed v
@@ -34,7 +32,6 @@ rest_few v = omega (arith, awake_few v.ring.asleep)
 
 -- the stage adds no more than 24 pages take, and an entry
 pub left_few : (s : BackStage) (v : View) → (s ≡ stage.MapRing → length v.grefs ≤ 16) → length v.pages ≤ 24 → left_at s v ≤ 41 + owed v
-left_few stage.InitWait v terms held = omega arith
 left_few stage.MapRing v terms held = omega (arith, terms refl, rest_few v)
 left_few stage.Bind v terms held = omega (arith, rest_few v)
 left_few stage.Loop v terms held = omega (arith, rest_few v)
@@ -45,14 +42,7 @@ left_few (stage.Producer r) v terms held = omega (arith, rest_few v)
 left_few (stage.ProducerFence old) v terms held = omega (arith, rest_few v)
 left_few (stage.ResponseEvent old) v terms held = omega (arith, rest_few v)
 left_few stage.Send v terms held = omega (arith, rest_few v)
-left_few stage.StoreEvent v terms held = omega arith
-left_few stage.EventFence v terms held = omega arith
-left_few stage.LookAgain v terms held = omega arith
-left_few (stage.Abort m) v terms held = omega arith
-left_few stage.UnmapRing v terms held = omega arith
-left_few stage.ClosePort v terms held = omega arith
-left_few stage.UnmapUnbound v terms held = omega arith
-left_few stage.Halted v terms held = omega arith
+left_few other v terms held = omega arith
 
 -- Mappings of references of their own, each below a number, are no more than that.
 abbrev are_below : ℕ → List Mapping → ℕ

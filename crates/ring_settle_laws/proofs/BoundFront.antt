@@ -41,8 +41,6 @@ words_few X32 = omega arith
 
 pub sends_few : (s : FrontStage) → front_sends s ≤ 5
 sends_few (stage.ProducerFence old) = omega arith
-sends_few (stage.RequestEvent old) = omega arith
-sends_few stage.Send = omega arith
 sends_few s = omega arith
 
 -- of the requests only those that wait count

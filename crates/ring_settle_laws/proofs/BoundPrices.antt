@@ -45,21 +45,11 @@ taken_free submission (Some n) status = refl
 -- any other costs no more than one that waits
 station_few : (submission : Submission) (s : Station) → station_left submission s ≤ push_price + (reply_price + job_price submission)
 station_few submission Waiting = omega arith
-station_few submission Issuing = omega arith
-station_few submission Pushed = omega arith
-station_few submission Fetching = omega arith
-station_few submission (Working moved) = omega arith
-station_few submission Failed = omega arith
-station_few submission (Ended status) = omega arith
-station_few submission (Replying status) = omega arith
 station_few submission s = omega arith
 
 job_few : (way : Transfer) (sector count : ℕ) → job_price (submitted_job way sector count) ≤ begun_left (frames_for count)
 job_few transfer.Read sector count = omega arith
-job_few (transfer.Write tag) sector count = omega arith
-job_few (transfer.Barrier tag) sector count = omega arith
-job_few transfer.Flush sector count = omega arith
-job_few (transfer.Discard sectors) sector count = omega arith
+job_few other sector count = omega arith
 
 -- each of the pipeline's requests costs nothing, or is one of the front's
 request_few : (config : Options) (w : World) (g : Flow) (d : Pipeline) → Holds config w g d w.front.stage w.back.stage → (k : ℕ) (q : PipelineRequest) → slice_get d.requests k ≡ Some q → request_left q ≤ at_number way_cost (k + 1) w.front.requests

@@ -72,11 +72,7 @@ enters_taken w s few taken = enters_cases (λ v shown. HasTaken v) s w.front (λ
   where
     entered : (s : FrontState) → HasTaken (in_state s w.front)
     entered (state.Agreed order) = no_distance w.front.start few
-    entered (state.Connected offers) = taken
-    entered state.Closing = taken
-    entered state.Leaving = taken
-    entered state.Closed = taken
-    entered (state.Broken word) = taken
+    entered other = taken
 
 -- once the back has halted
 over_calm : (config : Options) (w : World) (d : Pipeline) (h : Happening) → IsPlain config → Over config w d w.front.stage w.back.stage → IsServed w h → HasTaken w.front → HasTaken (let x : World = happens w h in x.front)

@@ -41,11 +41,8 @@ calm_at x false p q = q
 
 -- a request is begun, its data and its pages are written, its frames granted
 pub begun_calm : (way : Transfer) (v : View) (r : Request) → Calm stage.Loop v (begun v r way)
-begun_calm (transfer.Write tag) v r = still refl refl refl
-begun_calm (transfer.Barrier tag) v r = still refl refl refl
 begun_calm transfer.Read v r = calm_at v (is_indirect r.count) (still refl refl refl) (still refl refl refl)
-begun_calm transfer.Flush v r = still refl refl refl
-begun_calm (transfer.Discard sectors) v r = still refl refl refl
+begun_calm other v r = still refl refl refl
 
 data_calm : (o : Option Request) (n : ℕ) (v : View) → Calm (stage.Data n) v (at (data_stage o n) v)
 data_calm None n v = still refl refl refl

@@ -72,10 +72,7 @@ either_mark false x y p q = q
 
 issue_mark : (v : View) (r : Request) (way : Transfer) → asked_mark (issue_ask v r way) ≡ 0
 issue_mark v r transfer.Read = either_mark (is_indirect r.count) (page_ask (Some r) 0) (name_ask (Some r) 0) refl refl
-issue_mark v r (transfer.Write tag) = refl
-issue_mark v r (transfer.Barrier tag) = refl
-issue_mark v r transfer.Flush = refl
-issue_mark v r (transfer.Discard sectors) = refl
+issue_mark v r other = refl
 
 loop_mark : (v : View) (o : Option Request) → asked_mark (loop_ask v o) ≡ 0
 loop_mark v (Some r) = issue_mark v r r.transfer

@@ -39,8 +39,6 @@ untold_left s v = refl
 
 untold_saw : (s : FrontStage) (v : View) → front_saw s (record v { told = None }) ≡ front_saw s v
 untold_saw stage.StoreEvent v = refl
-untold_saw stage.EventFence v = refl
-untold_saw stage.LookAgain v = refl
 untold_saw s v = refl
 
 untold_end : (shown saw : ℕ) (v : View) → front_end_of shown saw (record v { told = None }) ≡ front_end_of shown saw v

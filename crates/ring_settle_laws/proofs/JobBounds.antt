@@ -53,13 +53,10 @@ job_bounded r stage.MapPage t shaped at = omega (arith, (pages_few r t at.0 at.1
 job_bounded r (stage.PageReference m) t shaped at = page_few r t at.page at.copies
 job_bounded r (stage.PageSectors m gref) t shaped at = let x = at.0 in omega (arith, page_few r t x.page x.copies)
 job_bounded r (stage.UnmapPage m) t shaped at = page_few r t at.page at.copies
-job_bounded r stage.Map t shaped at = omega (arith, sector_few r t 1 shaped at.0)
-job_bounded r (stage.ReadWord m k) t shaped at = omega (arith, sector_few r t 1 shaped at.0)
-job_bounded r (stage.DiskWrite m) t shaped at = omega (arith, sector_few r t 1 shaped at.0)
-job_bounded r (stage.DiskRead m) t shaped at = omega (arith, sector_few r t 1 shaped at.0)
 job_bounded r (stage.WriteWord m k) t shaped at = omega (arith, sector_few r t 0 shaped at.0)
 job_bounded r (stage.Unmap m) t shaped at = omega (arith, sector_few r t 0 shaped at.0)
 job_bounded r (stage.Abort m) t shaped at = omega arith
 job_bounded r stage.Flush t shaped at = omega arith
 job_bounded r (stage.Trim count) t shaped at = omega arith
 job_bounded r (stage.Done status) t shaped at = omega arith
+job_bounded r other t shaped at = omega (arith, sector_few r t 1 shaped at.0)

@@ -47,8 +47,6 @@ same_left b v works told e = omega (arith, e)
 
 same_saw : (b : BackStage) (v : back.View) (works : List Work) (told : Option BackTold) → back_saw b (with_works v works told) ≡ back_saw b v
 same_saw stage.StoreEvent v works told = refl
-same_saw stage.EventFence v works told = refl
-same_saw stage.LookAgain v works told = refl
 same_saw b v works told = refl
 
 -- the machine falls with its jobs, where the back and the channels stay

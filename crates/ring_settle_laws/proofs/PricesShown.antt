@@ -64,10 +64,7 @@ effect_of_epoch id index answer = refl
 back_of_epoch : (told : Option BackTold) (answer : BackAnswer) → HasNoEpoch (back_lines told answer)
 back_of_epoch None answer = refl
 back_of_epoch (Some (back_told.Effect id index)) answer = or_from (is_epoch (effect_line id index answer)) false (effect_of_epoch id index answer) refl
-back_of_epoch (Some (back_told.Flushed id)) answer = refl
-back_of_epoch (Some (back_told.Trimmed id)) answer = refl
-back_of_epoch (Some (back_told.Fault id index)) answer = refl
-back_of_epoch (Some (back_told.Reply id status)) answer = refl
+back_of_epoch (Some other) answer = refl
 
 halt_of_epoch : (before after : Option Halt) → HasNoEpoch (halt_lines before after)
 halt_of_epoch None (Some h) = refl
@@ -76,11 +73,7 @@ halt_of_epoch (Some h) after = refl
 
 state_of_epoch : (s : FrontState) → HasNoEpoch (state_lines s)
 state_of_epoch (state.Connected offers) = refl
-state_of_epoch state.Closing = refl
-state_of_epoch (state.Agreed order) = refl
-state_of_epoch state.Leaving = refl
-state_of_epoch state.Closed = refl
-state_of_epoch (state.Broken word) = refl
+state_of_epoch other = refl
 
 front_shown : (w : World) (a : Option FrontAct) → HasNoEpoch (front_shows w a)
 front_shown w None = refl
@@ -106,10 +99,9 @@ watch_of_epoch at None = refl
 watch_of_epoch at (Some path) = refl
 
 keys_of_epoch : (at : End) (move : KeyMove) (keys : Directory) → HasNoEpoch (key_lines at move keys)
-keys_of_epoch at (Gets path) keys = refl
 keys_of_epoch at (Sets path text) keys = if_of_epoch (may_set at path text) _ refl
-keys_of_epoch at (Watches path) keys = refl
 keys_of_epoch at TakesWatch keys = watch_of_epoch at _
+keys_of_epoch at other keys = refl
 
 pub shown_of_epoch : (w : World) (h : Happening) → IsEndsMove h → HasNoEpoch (lines_at w h)
 shown_of_epoch w FrontMoves ends = front_shown w (front_turn w)

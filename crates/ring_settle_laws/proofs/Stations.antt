@@ -87,23 +87,12 @@ told_left true submission index = refl
 told_left false submission index = refl
 
 move_lowers : (submission : Submission) (move : Move) → station_left submission (station_after submission move) ≤ station_left submission (station_before submission move)
-move_lowers submission BeginsEntry = omega arith
-move_lowers submission Pushes = omega arith
-move_lowers submission BeginsFetch = omega arith
-move_lowers submission Fetches = omega arith
-move_lowers submission (Fills index) = omega arith
-move_lowers submission (Reads index words) = omega arith
-move_lowers submission Flushes = omega arith
-move_lowers submission Trims = omega arith
-move_lowers submission (Fails index) = omega arith
 move_lowers submission (Ends Okay) = omega arith
 move_lowers submission (Ends Error) = omega arith
 move_lowers submission (Ends Unsupported) = omega arith
-move_lowers submission (BeginsResponse status) = omega arith
-move_lowers submission (Replies status) = omega arith
-move_lowers submission (Takes status) = omega arith
 move_lowers submission (Answers status) = omega (arith, answered_left (is_read submission && is_okay status) submission status)
 move_lowers submission (Tells index words) = omega (arith, told_left (nat_lt (index + 1) (places_of submission)) submission (index + 1))
+move_lowers submission other = omega arith
 
 move_falls : (d : Pipeline) (k : ℕ) (x : PipelineRequest) (move : Move) → IsAllowed d (Moves k x move) → Lowers d.requests (slice_set d.requests k (moved x move))
 move_falls d k x move allowed = record {
@@ -124,15 +113,9 @@ move_falls d k x move allowed = record {
 
 step_falls : (s : Step) (d : Pipeline) → is_anew s ≡ false → IsAllowed d s → Lowers d.requests (let p : Pipeline = next d s in p.requests)
 step_falls (Submits submission) d old allowed = absurd (true≢false old)
-step_falls (Refuses submission refusal) d old allowed = none_fall d.requests
 step_falls (Moves k x move) d old allowed = move_falls d k x move allowed
-step_falls Connects d old allowed = none_fall d.requests
-step_falls StartsToClose d old allowed = none_fall d.requests
-step_falls Closes d old allowed = none_fall d.requests
-step_falls (Leaves why) d old allowed = none_fall d.requests
 step_falls Resumes d old allowed = absurd (true≢false old)
-step_falls Rests d old allowed = none_fall d.requests
-step_falls (Shows line) d old allowed = none_fall d.requests
+step_falls other d old allowed = none_fall d.requests
 
 pub never_earlier : (steps : List Step) (d : Pipeline) → list_any is_anew steps ≡ false → AreAllowed steps d → Lowers d.requests (let p : Pipeline = after_steps steps d in p.requests)
 never_earlier [] d old allowed = none_fall d.requests

@@ -31,6 +31,7 @@ use Rattle.machine_pipeline.proofs.Holds.{IsPooled}
 use Rattle.machine_pipeline.proofs.Growing.{taken_next, taken_none}
 use Rattle.machine_pipeline.proofs.Lists.{get_append}
 use Rattle.front_laws.proofs.Changes.{unmade_open}
+use Rattle.negotiation_laws.proofs.Choices.{either}
 use Rattle.vbd_laws.specs.Breaks.{FrontSight, after_line}
 use Rattle.vbd_laws.proofs.BreaksKnown.{core_of, Share, share_of, HasPooled, going_at, request_of, with_going, Agree, agree_submitted, agree_anew, anew_core, anew_share}
 use Rattle.vbd_laws.proofs.BreaksKept.{Parts, parts_of, IsEnding, AtParts, KnownBy}
@@ -89,8 +90,7 @@ in_state_knows s (enter.Agreed order) v same may knows opened =
 in_state_knows s (enter.Connected offers) v same may knows opened = connected s v _ v.stage refl may (knows (initialised_open v.stage may))
 in_state_knows s enter.Closing v same may knows opened = let known = knows opened in record { agree = known.agree; at = known.at }
 in_state_knows s enter.Leaving v same may knows opened = let made = (both_true _ (is_made v.stage) may).1 in leaves s v _ v.stage refl made (knows (made_open v.stage made))
-in_state_knows s enter.Closed v same may knows opened = absurd (true≢false (sym opened))
-in_state_knows s (enter.Broken word) v same may knows opened = absurd (true≢false (sym opened))
+in_state_knows s other v same may knows opened = absurd (true≢false (sym opened))
 
 pub enters_knows : (s : FrontSight) (state : FrontState) (v : View) → IsSame state v.shape.order → Knows s v → Knows s (enters state v)
 enters_knows s state v same knows = enters_cases (λ (x : View) (shown : List Line). Knows s x) state v (λ may. in_state_knows s state v same may knows) knows
@@ -108,12 +108,8 @@ taking_pooled (suc n) pool frames taken size all e =
 -- what a submission gives: a refusal, or the next number
 submit_cases : (P : Result ℕ Refusal × View → Type 0) (v : View) (job : Submission) → ((why : Refusal) → P (Err why, v)) → ((wish : Wish) (taken : List ℕ × List Bool) → taking (frames_taken wish.count) v.pool [] ≡ Some taken → P (Ok (v.last + 1), accepted v wish taken)) → P (submit_of v job)
 submit_cases P v job refused takes =
-    either (v.last == 4294967295) _ _ (refused _) (either v.closing _ _ (refused _) (either (not (is_ready v.stage)) _ _ (refused _) (by_wish (wish_of v.offers job))))
+    either P (v.last == 4294967295) _ _ (refused _) (either P v.closing _ _ (refused _) (either P (not (is_ready v.stage)) _ _ (refused _) (by_wish (wish_of v.offers job))))
   where
-    either : (b : Bool) (x y : Result ℕ Refusal × View) → P x → P y → P (if b then x else y)
-    either true x y p q = p
-    either false x y p q = q
-
     by_taken : (wish : Wish) (o : Option (List ℕ × List Bool)) → taking (frames_taken wish.count) v.pool [] ≡ o → P (submit_with v wish o)
     by_taken wish None e = refused _
     by_taken wish (Some taken) e = takes wish taken e
@@ -121,8 +117,8 @@ submit_cases P v job refused takes =
     by_wish : (o : Option Wish) → P (submit_one v o)
     by_wish None = refused _
     by_wish (Some wish) =
-        either (is_write wish.transfer && v.offers.read_only) _ _ (refused _) (either (nat_lt v.offers.sectors (wish.sector + named_of wish.transfer wish.count)) _ _ (refused _)
-        (either (nat_lt (most_segments v.offers wish.transfer) (frames_for wish.count)) _ _ (refused _) (either (nat_le (entries_of v.shape.order) (unfinished v)) _ _ (refused _) (by_taken wish (taking (frames_taken wish.count) v.pool []) refl))))
+        either P (is_write wish.transfer && v.offers.read_only) _ _ (refused _) (either P (nat_lt v.offers.sectors (wish.sector + named_of wish.transfer wish.count)) _ _ (refused _)
+        (either P (nat_lt (most_segments v.offers wish.transfer) (frames_for wish.count)) _ _ (refused _) (either P (nat_le (entries_of v.shape.order) (unfinished v)) _ _ (refused _) (by_taken wish (taking (frames_taken wish.count) v.pool []) refl))))
 
 -- the next request stays
 next_more : (v : View) (r x : Request) → next_request v ≡ Some r → (if v.waiting + 1 == 0 then None else slice_get (v.requests ++ x ∷ []) (length (v.requests ++ x ∷ []) - (v.waiting + 1))) ≡ Some r

@@ -203,7 +203,6 @@ idle_owes s f still known =
 -- a move of the negotiation: what it makes happen is due by what it showed
 writes_none : (own : BusState) → word_of_news (written_news own) ≡ None
 writes_none state.Connected = refl
-writes_none state.Closed = refl
 writes_none own = refl
 
 pub key_due : (s : FrontSight) (h : Hypervisor) (b : FrontBusStage) (v : FrontView) (f : ring.View) (idle : Bool) (offers : Offers) (a : FrontAct) → IsPlaced b → (is_reading b ≡ true → is_open f.stage ≡ true) → (reads_state b ≡ true → idle ≡ (length s.owed == 0))

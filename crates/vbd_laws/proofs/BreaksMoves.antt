@@ -74,8 +74,7 @@ pub record Holds (s : FrontSight) (w : World) : Type 0 where
 pub told_good : (u : FrontSight) (t : Option Told) → u.due ≡ word_of_told t → AnswerIsRead u.response t → (u.over ≡ true → t ≡ None) → AllGood u (front_lines t) × ((let x : FrontSight = fold after_line u (front_lines t) in x.due) ≡ None)
 told_good u None due read live = (tt, due)
 told_good u (Some (told.Answer id status)) due read live = (((sym due, read, λ over. absurd (none-some _ (sym (live over)))), tt), refl)
-told_good u (Some (told.Sector id index words)) due read live = (((sym due, tt, λ over. absurd (none-some _ (sym (live over)))), tt), refl)
-told_good u (Some (told.Broken word)) due read live = (((sym due, tt, λ over. absurd (none-some _ (sym (live over)))), tt), refl)
+told_good u (Some other) due read live = (((sym due, tt, λ over. absurd (none-some _ (sym (live over)))), tt), refl)
 
 -- and its negotiation
 pub news_good : (u : FrontSight) (n : Option FrontNews) → u.due ≡ word_of_news n → u.over ≡ false → AllGood u (news_lines n) × (fold after_line u (news_lines n) ≡ record u { over = over_by n u.over; due = None })

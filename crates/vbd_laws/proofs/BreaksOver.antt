@@ -53,12 +53,11 @@ over_by n over = over
 
 -- a state that is entered leaves it closed or broken
 in_state_shut : (state : FrontState) (v : View) → may_enter state v ≡ true → is_open v.stage ≡ false → is_open (in_state state v).stage ≡ false
-in_state_shut (enter.Agreed order) v may shut = shut
 in_state_shut (enter.Connected offers) v may shut = absurd (true≢false (sym (initialised_open v.stage may) ∙ shut))
-in_state_shut enter.Closing v may shut = shut
 in_state_shut enter.Leaving v may shut = absurd (true≢false (sym (made_open v.stage (both_true _ (is_made v.stage) may).1) ∙ shut))
 in_state_shut enter.Closed v may shut = refl
 in_state_shut (enter.Broken word) v may shut = refl
+in_state_shut other v may shut = shut
 
 enters_shut : (state : FrontState) (v : View) → is_open v.stage ≡ false → is_open (enters state v).stage ≡ false
 enters_shut state v shut = enters_cases (λ (x : View) (shown : List Line). is_open x.stage ≡ false) state v (λ may. in_state_shut state v may shut) shut

@@ -1,5 +1,5 @@
 -- The key of the back that the front reads is one of those of its stage, whatever happens.
-use Rattle.std.proofs.Common.{◌≡◌, ℕ, ◌+◌, ◌||◌, Bool, true, false, if◌then◌else◌, refl, sym, subst}
+use Rattle.std.proofs.Common.{◌≡◌, ℕ, ◌+◌, Bool, true, false, refl, sym, subst}
 use Rattle.std.specs.Prelude.{Option, Some, None, nat_lt, ◌==◌}
 use Rattle.blk_base.specs.declared.ask.FrontAnswer.{FrontAnswer}
 use Rattle.blk_base.specs.declared.ask.FrontAnswer.TheVariants as front_answer
@@ -20,11 +20,12 @@ use Rattle.xenbus_state.specs.States.{state_read}
 use Rattle.xenbus_state.specs.Tables as tables
 use Rattle.xenbus_state.specs.Programs.{IsFeature, IsFact, next_feature, next_fact, next_published}
 use Rattle.xenbus_state.specs.Reading.{count_read, fact_read}
-use Rattle.xenbus_state.specs.FrontView.{FrontView, closed, pages_of, ring_order, suspended_at, suspended, is_broken as is_broken_bus}
+use Rattle.xenbus_state.specs.FrontView.{FrontView, closed, pages_of, ring_order, suspended_at, suspended}
 use Rattle.xenbus_state.specs.FrontAsk.{ask_of, due, leaving, closing_stage}
 use Rattle.xenbus_state.specs.FrontStep.{at, acted, feature_step, fact_step, after_feature, after_fact, after_published, after_grants, after_state, step_at, step_of}
 use Rattle.vbd_front.specs.View.{is_broken}
 use Rattle.vbd_front.specs.Step.{settled_at, bus_told, woken, followed, waited}
+use Rattle.negotiation_laws.proofs.Choices.{closed_cases, either}
 use Rattle.vbd_laws.proofs.FitFrontBus.{due_cases}
 
 -- the key that the front reads is one of those of its stage
@@ -35,15 +36,10 @@ IsPlaced s = Unit {0}
 
 feature_placed : (k : BackKey) → IsPlaced (after_feature (next_feature k))
 feature_placed key.FeatureBarrier = tt
-feature_placed key.FeatureFlushCache = tt
-feature_placed key.FeatureDiscard = tt
-feature_placed key.FeaturePersistent = tt
-feature_placed key.FeatureMaxIndirectSegments = tt
 feature_placed k = tt
 
 fact_placed : (k : BackKey) → IsPlaced (after_fact (next_fact k))
 fact_placed key.Sectors = tt
-fact_placed key.SectorSize = tt
 fact_placed k = tt
 
 read_feature : (k : BackKey) (n : Option ℕ) (v : FrontView) → IsPlaced (feature_step k n v).stage
@@ -56,16 +52,7 @@ read_fact k (Some n) v = fact_placed k
 
 acted_placed : (act : FrontAction) (v : FrontView) → IsPlaced (acted act v).stage
 acted_placed action.Nothing v = tt
-acted_placed action.Publish v = tt
-acted_placed action.Connect v = tt
-acted_placed action.Close v = tt
-acted_placed action.CloseAndConnect v = tt
-acted_placed action.Leave v = tt
-acted_placed (action.Break word) v = tt
-
-either : (b : Bool) (x y : FrontBusStage) → IsPlaced x → IsPlaced y → IsPlaced (if b then x else y)
-either true x y p q = p
-either false x y p q = q
+acted_placed other v = tt
 
 published_placed : (next : Option FrontKey) → IsPlaced (after_published next)
 published_placed None = tt
@@ -87,10 +74,10 @@ at_placed stage.NewPort v idle (front_answer.Port number) placed here = tt
 at_placed (stage.ReadFact k) v idle (front_answer.Key text) placed here = read_fact k (fact_read k text) v
 at_placed (stage.WriteState s) v idle front_answer.Done placed here = written_placed s
 at_placed stage.ClosePort v idle front_answer.Done placed here = tt
-at_placed (stage.RingWord word) v idle front_answer.Done placed here = either (word == 15) (stage.Grant 0) (stage.RingWord (word + 1)) tt tt
-at_placed (stage.Grant page) v idle front_answer.Done placed here = either (nat_lt (page + 1) (pages_of v)) (stage.Grant (page + 1)) stage.NewPort tt tt
+at_placed (stage.RingWord word) v idle front_answer.Done placed here = either IsPlaced (word == 15) (stage.Grant 0) (stage.RingWord (word + 1)) tt tt
+at_placed (stage.Grant page) v idle front_answer.Done placed here = either IsPlaced (nat_lt (page + 1) (pages_of v)) (stage.Grant (page + 1)) stage.NewPort tt tt
 at_placed (stage.Publish k) v idle front_answer.Done placed here = published_placed (next_published (ring_order v) k)
-at_placed (stage.EndGrant page) v idle front_answer.Done placed here = either (nat_lt (page + 1) (pages_of v)) (stage.EndGrant (page + 1)) stage.EndOtherGrants tt tt
+at_placed (stage.EndGrant page) v idle front_answer.Done placed here = either IsPlaced (nat_lt (page + 1) (pages_of v)) (stage.EndGrant (page + 1)) stage.EndOtherGrants tt tt
 at_placed stage.EndOtherGrants v idle front_answer.Done placed here = grants_placed v.port
 at_placed s v idle front_answer.Done placed here = placed
 at_placed s v idle x placed here = subst IsPlaced (sym here) placed
@@ -138,11 +125,7 @@ waited_placed ask.Wait v idle x placed = woken_placed false v idle x placed
 waited_placed b v idle x placed = placed
 
 pub closed_placed : (v : FrontView) → IsPlaced v.stage → IsPlaced (closed v).stage
-closed_placed v placed = by_test (v.closing || is_broken_bus v.stage)
-  where
-    by_test : (b : Bool) → IsPlaced (if b then v else record v { closing = true }).stage
-    by_test true = placed
-    by_test false = placed
+closed_placed v placed = closed_cases (λ (u : FrontView). IsPlaced u.stage) v placed placed
 
 -- a front that begins anew, or is closed or broken, reads no key
 pub suspended_placed : (v : FrontView) → IsPlaced v.stage → IsPlaced (suspended v).stage

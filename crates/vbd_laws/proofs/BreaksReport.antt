@@ -4,12 +4,10 @@ use Rattle.std.specs.Prelude.{None}
 use Rattle.std.proofs.lemmas.List.Elements.{All-nil}
 use Rattle.std.proofs.lemmas.List.Sums.{fold-append}
 use Rattle.blk_base.specs.Options.{Options}
-use Rattle.schedule_text.specs.declared.line.Detail.{Detail}
 use Rattle.schedule_text.specs.declared.line.Detail.TheVariants.{Moves}
 use Rattle.schedule_text.specs.declared.line.Line.{Line}
 use Rattle.schedule_text.specs.declared.line.Line.TheVariants as lines
 use Rattle.schedule_text.specs.Range.{AreOptions}
-use Rattle.schedule_text.specs.Recorder.{kept_of}
 use Rattle.report_rules.proofs.Obeys.{obeys_none, obeys_more}
 use Rattle.vbd_model.specs.World.{start_of}
 use Rattle.vbd_model.specs.Happening.{Happening}
@@ -19,12 +17,9 @@ use Rattle.vbd_laws.specs.Breaks.{FrontSight, nothing_told, after_line, told_by,
 use Rattle.vbd_laws.specs.AnswersRead.{IsReadAt, AreRead, EachReportAnswersWhatIsRead, EachEndedAnswersWhatIsRead}
 use Rattle.vbd_laws.proofs.BreaksKnown.{HasPooled}
 use Rattle.vbd_laws.proofs.BreaksMoves.{IsGood, AllGood, Holds}
-use Rattle.vbd_laws.proofs.Recorded.{all_kept, ended_all}
+use Rattle.vbd_laws.proofs.Recorded.{report_recorded, ended_recorded}
 use Rattle.vbd_laws.proofs.ServedPossible.{stands_start}
 use Rattle.vbd_laws.proofs.BreaksRun.{run}
-use Rattle.split_model.specs.Report as ring_report
-use Rattle.vbd_model.specs.Happening.{all_does}
-use Rattle.vbd_model.proofs.Running.{report_lift, ended_report_lift}
 
 -- before anything happened
 start_good : (config : Options) → IsGood nothing_told (lines.Begin config Moves)
@@ -80,25 +75,19 @@ ended_runs : (config : Options) (history : List Happening) → AreOptions config
 ended_runs config history are = one_more (report_of config Moves history) lines.End (report_runs config history are) (sym (report_good config history are).1, tt, λ over. refl)
 
 pub report_breaks : EachReportBreaksWhereDue
-report_breaks config detail history are same =
-    subst (λ (d : Detail). AreBreaksDue (kept_of d (report_of config d history))) (sym same) (subst (λ (ls : List Line). AreBreaksDue ls) (sym (all_kept config history)) (report_runs config history are).0)
+report_breaks config detail history are same = report_recorded AreBreaksDue config detail history same (report_runs config history are).0
 
 pub ended_breaks : EachEndedBreaksWhereDue
-ended_breaks config detail history are same =
-    subst (λ (d : Detail). AreBreaksDue (kept_of d (ended_report_of config d history))) (sym same) (subst (λ (ls : List Line). AreBreaksDue ls) (sym (ended_all config history)) (ended_runs config history are).0)
+ended_breaks config detail history are same = ended_recorded AreBreaksDue config detail history same (ended_runs config history are).0
 
 pub report_reads : EachReportAnswersWhatIsRead
-report_reads config detail history are same =
-    subst (λ (d : Detail). AreRead (kept_of d (report_of config d history))) (sym same) (subst (λ (ls : List Line). AreRead ls) (sym (all_kept config history)) (report_runs config history are).1)
+report_reads config detail history are same = report_recorded AreRead config detail history same (report_runs config history are).1
 
 pub ended_reads : EachEndedAnswersWhatIsRead
-ended_reads config detail history are same =
-    subst (λ (d : Detail). AreRead (kept_of d (ended_report_of config d history))) (sym same) (subst (λ (ls : List Line). AreRead ls) (sym (ended_all config history)) (ended_runs config history are).1)
+ended_reads config detail history are same = ended_recorded AreRead config detail history same (ended_runs config history are).1
 
 pub report_over : EachReportIsOverOnce
-report_over config detail history are same =
-    subst (λ (d : Detail). IsOverOnce (kept_of d (report_of config d history))) (sym same) (subst (λ (ls : List Line). IsOverOnce ls) (sym (all_kept config history)) (report_runs config history are).2)
+report_over config detail history are same = report_recorded IsOverOnce config detail history same (report_runs config history are).2
 
 pub ended_over : EachEndedIsOverOnce
-ended_over config detail history are same =
-    subst (λ (d : Detail). IsOverOnce (kept_of d (ended_report_of config d history))) (sym same) (subst (λ (ls : List Line). IsOverOnce ls) (sym (ended_all config history)) (ended_runs config history are).2)
+ended_over config detail history are same = ended_recorded IsOverOnce config detail history same (ended_runs config history are).2

@@ -1,5 +1,5 @@
 -- Whatever happens, `broken` stands exactly where it is due, and each answer is the response that was read.
-use Rattle.std.proofs.Common.{◌≡◌, ℕ, ◌&&◌, ◌||◌, Bool, true, false, true≢false, if◌then◌else◌, List, [], ◌∷◌, ◌++◌, refl, sym, ap, ◌∙◌, subst, append-nil}
+use Rattle.std.proofs.Common.{◌≡◌, ℕ, ◌&&◌, Bool, true, false, true≢false, if◌then◌else◌, List, [], ◌∷◌, ◌++◌, refl, sym, ap, ◌∙◌, subst, append-nil}
 use Rattle.std.specs.Prelude.{Option, Some, None, Result, Ok, Err, fold}
 use Rattle.std.specs.List.{AllByRecursion}
 use Rattle.std.proofs.lemmas.List.Sums.{fold-append}
@@ -27,7 +27,7 @@ use Rattle.blk_back.specs.Step as back_step
 use Rattle.xenbus_state.specs.declared.stage.FrontBusStage.{FrontBusStage}
 use Rattle.xenbus_state.specs.declared.stage.FrontBusStage.TheVariants as stage
 use Rattle.xenbus_state.specs.declared.front.FrontNews.TheVariants as news
-use Rattle.xenbus_state.specs.FrontView.{FrontView, suspended_at, suspended as front_suspended, closed, is_broken as is_broken_bus}
+use Rattle.xenbus_state.specs.FrontView.{FrontView, suspended_at, suspended as front_suspended, closed}
 use Rattle.split_model.specs.World as rings
 use Rattle.split_model.specs.Happening as ring
 use Rattle.split_model.specs.Shown.{front_lines, back_lines, halt_lines}
@@ -45,6 +45,7 @@ use Rattle.vbd_model.specs.Happening.{Happening, FrontMoves, BackMoves, JobMoves
 use Rattle.vbd_model.specs.News.{news_lines}
 use Rattle.vbd_model.specs.Fit.{IsFit}
 use Rattle.vbd_model.proofs.Tight.{IsTight, tight_after}
+use Rattle.negotiation_laws.proofs.Choices.{closed_cases}
 use Rattle.vbd_laws.specs.Moves.{IsFrontMove, IsBackMove, IsClose, IsNoMove, close_lines}
 use Rattle.vbd_laws.specs.Breaks.{FrontSight, after_line, broken_by, is_of_front}
 use Rattle.vbd_laws.specs.AnswersRead.{IsReadAfter}
@@ -258,11 +259,7 @@ closing_goes s true none live = record { good = ((sym none, tt, λ over. absurd 
 closing_goes s false none live = record { good = tt; same = refl }
 
 closed_stage : (v : FrontView) → (closed v).stage ≡ v.stage
-closed_stage v = by_test (v.closing || is_broken_bus v.stage)
-  where
-    by_test : (b : Bool) → (let x : FrontView = (if b then v else record v { closing = true }) in x.stage) ≡ v.stage
-    by_test true = refl
-    by_test false = refl
+closed_stage v = closed_cases (λ (u : FrontView). u.stage ≡ v.stage) v refl refl
 
 closing_stage : (f : front.View) → (enters enter.Closing f).stage ≡ f.stage
 closing_stage f = by_test (may_enter enter.Closing f)

@@ -32,6 +32,7 @@ use Rattle.split_model.specs.Shown.{front_lines}
 use Rattle.split_model.proofs.SafeActs.{of_front, front_wait}
 use Rattle.machine_pipeline.proofs.Data.{pooled_at}
 use Rattle.machine_pipeline.proofs.Slots.{few_pages, some_words, response_fits}
+use Rattle.negotiation_laws.proofs.Choices.{either as either_way}
 use Rattle.vbd_laws.specs.Breaks.{FrontSight, is_entry_word, due_of_word, after_line}
 use Rattle.vbd_laws.specs.AnswersRead.{IsRead}
 use Rattle.vbd_laws.specs.Breaks.{after_move}
@@ -150,17 +151,13 @@ module _ (s : FrontSight) (v : View) (h : Hypervisor) (a : FrontAct) (quiet : v.
     known = λ due. subst (λ (t : Option Told). (let u : FrontSight = fold after_line (record s { due = due }) (front_lines t) in KnownBy u x.stage x)) (sym still) known;
   }
 
-  either_ends : (b : Bool) (x y : View) → Ends s v quiet x → Ends s v quiet y → Ends s v quiet (if b then x else y)
-  either_ends true x y p q = p
-  either_ends false x y p q = q
-
   end_goes : (o : Option Ending) (place old : ℕ) → v.ending ≡ o → KnownBy s (stage.GrantEnd place old) v → front_act h (end_ask o place old) ≡ Some a → RingGoes s a.shown (step_at (stage.GrantEnd place old) v a.answer)
   end_goes None place old is known e = let at = known.at in absurd (none-some at.e (sym is ∙ at.ending_is))
   end_goes (Some e) place old is known acts =
       of_front (Goes (step_at (stage.GrantEnd place old) v)) _ a
       (exchange_goes s v quiet _ _ old _ (revoked v.ending place v)
       (subst (λ (o : Option Ending). Ends s v quiet (revoked o place v)) (sym is)
-      (either_ends (nat_lt (place + 1) (length e.request.frames.items)) (at (stage.GrantRead (place + 1)) v) (ended e v)
+      (either_way (Ends s v quiet) (nat_lt (place + 1) (length e.request.frames.items)) (at (stage.GrantRead (place + 1)) v) (ended e v)
       (quiet_ends (at (stage.GrantRead (place + 1)) v) quiet (record { agree = known.agree; at = known.at }))
       (ended_ends e known.at is (subst (λ (o : Option Ending). Agree (core_of s) (share_of v) (request_of o)) is known.agree))))) acts
 
@@ -336,6 +333,5 @@ module _ (s : FrontSight) (v : View) (h : Hypervisor) (a : FrontAct) (quiet : v.
   ring_goes stage.ClosePort here known e = of_front (Goes (step_at stage.ClosePort v)) _ a (closes_port stage.Left (record { agree = known.agree; at = known.at })) e
   ring_goes (stage.KeptRead frame) here known e = waits (stage.KeptRead frame) here known (step_at (stage.KeptRead frame) v) refl (λ path. refl) e
   ring_goes (stage.KeptEnd frame seen) here known e = waits (stage.KeptEnd frame seen) here known (step_at (stage.KeptEnd frame seen) v) refl (λ path. refl) e
-  ring_goes stage.Left here known e = waits stage.Left here known (step_at stage.Left v) refl (λ path. refl) e
-  ring_goes stage.Closed here known e = waits stage.Closed here known (step_at stage.Closed v) refl (λ path. refl) e
   ring_goes (stage.Broken word) here known e = waits (stage.Broken word) here known (step_at (stage.Broken word) v) refl (λ path. refl) e
+  ring_goes other here known e = waits other here known (step_at other v) refl (λ path. refl) e

@@ -44,6 +44,7 @@ use Rattle.vbd_front.specs.View.{is_still, is_broken}
 use Rattle.vbd_front.specs.Ask as front
 use Rattle.vbd_front.specs.Step.{settled_at, settled, bus_told, woken, followed, waited}
 use Rattle.vbd_model.specs.Fit.{FrontRests, IsEndingPage, FrontGoesWith}
+use Rattle.negotiation_laws.proofs.Choices.{either}
 use Rattle.vbd_laws.specs.Breaks.{FrontSight}
 use Rattle.vbd_laws.proofs.BreaksKept.{KnownBy}
 use Rattle.vbd_laws.proofs.BreaksKeys.{reads_state, due_state}
@@ -61,18 +62,10 @@ due_unread v idle none = by_test (reads_state (bus.due v idle)) refl
     by_test true e = absurd (true≢false (sym (due_state v idle e) ∙ none))
 
 -- no answer but a watch has it read the state next
-either : (b : Bool) (x y : FrontBusStage) → reads_state x ≡ false → reads_state y ≡ false → reads_state (if b then x else y) ≡ false
-either true x y p q = p
-either false x y p q = q
 
 acted_unread : (act : FrontAction) (v : FrontView) → reads_state (acted act v).stage ≡ false
 acted_unread action.Nothing v = refl
-acted_unread action.Publish v = refl
-acted_unread action.Connect v = refl
-acted_unread action.Close v = refl
-acted_unread action.CloseAndConnect v = refl
-acted_unread action.Leave v = refl
-acted_unread (action.Break word) v = refl
+acted_unread other v = refl
 
 features_unread : (k : Option BackKey) → reads_state (after_feature k) ≡ false
 features_unread None = refl
@@ -110,10 +103,10 @@ step_unread stage.NewPort v idle (answer.Port number) other none = refl
 step_unread (stage.ReadFact k) v idle (answer.Key text) other none = fact_unread k (fact_read k text) (at (stage.ReadFact k) v)
 step_unread (stage.WriteState own) v idle answer.Done other none = written_unread own
 step_unread stage.ClosePort v idle answer.Done other none = refl
-step_unread (stage.RingWord word) v idle answer.Done other none = either (word == 15) (stage.Grant 0) (stage.RingWord (word + 1)) refl refl
-step_unread (stage.Grant page) v idle answer.Done other none = either (nat_lt (page + 1) (pages_of v)) (stage.Grant (page + 1)) stage.NewPort refl refl
+step_unread (stage.RingWord word) v idle answer.Done other none = either (λ (one : FrontBusStage). reads_state one ≡ false) (word == 15) (stage.Grant 0) (stage.RingWord (word + 1)) refl refl
+step_unread (stage.Grant page) v idle answer.Done other none = either (λ (one : FrontBusStage). reads_state one ≡ false) (nat_lt (page + 1) (pages_of v)) (stage.Grant (page + 1)) stage.NewPort refl refl
 step_unread (stage.Publish k) v idle answer.Done other none = published_unread (next_published (ring_order v) k)
-step_unread (stage.EndGrant page) v idle answer.Done other none = either (nat_lt (page + 1) (pages_of v)) (stage.EndGrant (page + 1)) stage.EndOtherGrants refl refl
+step_unread (stage.EndGrant page) v idle answer.Done other none = either (λ (one : FrontBusStage). reads_state one ≡ false) (nat_lt (page + 1) (pages_of v)) (stage.EndGrant (page + 1)) stage.EndOtherGrants refl refl
 step_unread stage.EndOtherGrants v idle answer.Done other none = grants_unread v.port
 step_unread stage.Start v idle answer.Done other none = refl
 step_unread b v idle answer.Done other none = none
@@ -230,40 +223,22 @@ module _ (s : FrontSight) (v : ring.View) (h : Hypervisor) (a : FrontAct) where
 
   -- whatever stage it is at
   pub watched_still : (t : FrontStage) → v.stage ≡ t → KnownBy s t v → is_broken t ≡ false → front_act h (ring_asks.ask_at t v) ≡ Some a → Still t
-  watched_still (ring_stage.RingWord k) here known whole e some = unwatched (of_front (λ (x : FrontAct). is_watched x.answer ≡ false) _ a refl e) some
-  watched_still (ring_stage.RingFrame page) here known whole e some = unwatched (of_front (λ (x : FrontAct). is_watched x.answer ≡ false) _ a refl e) some
-  watched_still (ring_stage.RingFence page) here known whole e some = unwatched (of_front (λ (x : FrontAct). is_watched x.answer ≡ false) _ a refl e) some
-  watched_still (ring_stage.RingFlags page) here known whole e some = unwatched (of_front (λ (x : FrontAct). is_watched x.answer ≡ false) _ a refl e) some
-  watched_still ring_stage.NewPort here known whole e some = unwatched (of_front (λ (x : FrontAct). is_watched x.answer ≡ false) _ a refl e) some
   watched_still ring_stage.Initialised here known whole e some = ap is_still here
   watched_still ring_stage.Loop here known whole e some = loop_still (next_request v) here e some
   watched_still (ring_stage.Data n) here known whole e some = let at = known.at in unwatched (data_unwatched (next_request v) n at.r at.next_is e) some
   watched_still (ring_stage.Pages n) here known whole e some = let at = known.at in unwatched (page_unwatched (next_request v) n at.r at.next_is e) some
   watched_still (ring_stage.GrantFrame place) here known whole e some = let at = known.at in unwatched (name_unwatched (next_request v) place at.r at.next_is e) some
-  watched_still (ring_stage.GrantFence place) here known whole e some = unwatched (of_front (λ (x : FrontAct). is_watched x.answer ≡ false) _ a refl e) some
   watched_still (ring_stage.GrantFlags place) here known whole e some = let at = known.at in unwatched (grant_unwatched (next_request v) place at.r at.next_is e) some
-  watched_still (ring_stage.Slot k) here known whole e some = unwatched (of_front (λ (x : FrontAct). is_watched x.answer ≡ false) _ a refl e) some
-  watched_still ring_stage.Producer here known whole e some = unwatched (of_front (λ (x : FrontAct). is_watched x.answer ≡ false) _ a refl e) some
-  watched_still (ring_stage.ProducerFence old) here known whole e some = unwatched (of_front (λ (x : FrontAct). is_watched x.answer ≡ false) _ a refl e) some
-  watched_still (ring_stage.RequestEvent old) here known whole e some = unwatched (of_front (λ (x : FrontAct). is_watched x.answer ≡ false) _ a refl e) some
-  watched_still ring_stage.Send here known whole e some = unwatched (of_front (λ (x : FrontAct). is_watched x.answer ≡ false) _ a refl e) some
-  watched_still (ring_stage.ResponseHigh low) here known whole e some = unwatched (of_front (λ (x : FrontAct). is_watched x.answer ≡ false) _ a refl e) some
-  watched_still (ring_stage.ResponseLast low high) here known whole e some = unwatched (of_front (λ (x : FrontAct). is_watched x.answer ≡ false) _ a refl e) some
   watched_still (ring_stage.GrantRead place) here known whole e some = let at = known.at in unwatched (revoke_unwatched v.ending place at.e at.ending_is e) some
   watched_still (ring_stage.GrantEnd place old) here known whole e some = let at = known.at in unwatched (end_unwatched v.ending place old at.e at.ending_is e) some
   watched_still (ring_stage.ReadData n) here known whole e some = let at = known.at in unwatched (read_unwatched v.ending n at.e at.ending_is e) some
   watched_still (ring_stage.LeftData n) here known whole e some = let at = known.at.1 in unwatched (read_unwatched v.ending n at.e at.ending_is e) some
-  watched_still ring_stage.StoreEvent here known whole e some = unwatched (of_front (λ (x : FrontAct). is_watched x.answer ≡ false) _ a refl e) some
-  watched_still ring_stage.EventFence here known whole e some = unwatched (of_front (λ (x : FrontAct). is_watched x.answer ≡ false) _ a refl e) some
-  watched_still ring_stage.LookAgain here known whole e some = unwatched (of_front (λ (x : FrontAct). is_watched x.answer ≡ false) _ a refl e) some
-  watched_still (ring_stage.RingRead page) here known whole e some = unwatched (of_front (λ (x : FrontAct). is_watched x.answer ≡ false) _ a refl e) some
-  watched_still (ring_stage.RingEnd page old) here known whole e some = unwatched (of_front (λ (x : FrontAct). is_watched x.answer ≡ false) _ a refl e) some
-  watched_still ring_stage.ClosePort here known whole e some = unwatched (of_front (λ (x : FrontAct). is_watched x.answer ≡ false) _ a refl e) some
   watched_still (ring_stage.KeptRead frame) here known whole e some = ap is_still here
   watched_still (ring_stage.KeptEnd frame seen) here known whole e some = ap is_still here
   watched_still ring_stage.Left here known whole e some = ap is_still here
   watched_still ring_stage.Closed here known whole e some = ap is_still here
   watched_still (ring_stage.Broken word) here known whole e some = absurd (true≢false whole)
+  watched_still other here known whole e some = unwatched (of_front (λ (x : FrontAct). is_watched x.answer ≡ false) _ a refl e) some
 
 -- where the ring isn't ready, or has begun no step, the negotiation's rest finds it so
 pub rests_still : (own : BusState) (gone : Bool) (port : Option ℕ) (r : FrontStage) → FrontRests own gone port r → (is_ready r ≡ true → is_still r ≡ true) → is_still r ≡ true

@@ -1,4 +1,5 @@
 -- The machine is fit at the start and stays so.
+use Rattle.negotiation_laws.proofs.Choices.{either}
 use Rattle.vbd_laws.proofs.FitSaid.{LeavesBack, same_back, written_leaves, announced_kept, said_kept}
 use Rattle.vbd_laws.proofs.FitFrontReads.{reads_kept}
 use Rattle.vbd_laws.proofs.FitSuspended.{one_announced, fit_suspends}
@@ -131,9 +132,6 @@ fit_job w k outcome (Some a) fit e safe =
     fit_rings w (ring.job_after w.rings k (Some a)) fit safe (record { front = refl; shape = refl; closing = refl; through = λ is. is; back = refl; halted = refl; terms = refl; info = job_step_info w.rings.back k a.answer; keys = subst (LeavesBack w.back.features w.back.disk w.rings.under.keys) (sym same.1) (same_back w.back.features w.back.disk w.rings.under.keys); room = fit.room }) (rw same.0 fit.unported) (rw same.0 fit.unbound)
 
 -- a submission leaves whether the front closes, and one that closes takes none
-either_closing : (b c : Bool) (x y : Result ℕ Refusal × View) → x.1.closing ≡ c → y.1.closing ≡ c → (if b then x else y).1.closing ≡ c
-either_closing true c x y p q = p
-either_closing false c x y p q = q
 
 closing_with : (v : View) (wish : Wish) (taken : Option (List ℕ × List Bool)) → (submit_with v wish taken).1.closing ≡ v.closing
 closing_with v wish None = refl
@@ -142,14 +140,14 @@ closing_with v wish (Some taken) = refl
 closing_one : (v : View) (wish : Option Wish) → (submit_one v wish).1.closing ≡ v.closing
 closing_one v None = refl
 closing_one v (Some wish) =
-    either_closing (is_write wish.transfer && v.offers.read_only) v.closing _ _ refl
-    (either_closing (nat_lt v.offers.sectors (wish.sector + named_of wish.transfer wish.count)) v.closing _ _ refl
-    (either_closing (nat_lt (most_segments v.offers wish.transfer) (frames_for wish.count)) v.closing _ _ refl
-    (either_closing (nat_le (entries_of v.shape.order) (unfinished v)) v.closing _ _ refl (closing_with v wish (taking (frames_taken wish.count) v.pool [])))))
+    either (λ (one : Result ℕ Refusal × View). one.1.closing ≡ v.closing) (is_write wish.transfer && v.offers.read_only) _ _ refl
+    (either (λ (one : Result ℕ Refusal × View). one.1.closing ≡ v.closing) (nat_lt v.offers.sectors (wish.sector + named_of wish.transfer wish.count)) _ _ refl
+    (either (λ (one : Result ℕ Refusal × View). one.1.closing ≡ v.closing) (nat_lt (most_segments v.offers wish.transfer) (frames_for wish.count)) _ _ refl
+    (either (λ (one : Result ℕ Refusal × View). one.1.closing ≡ v.closing) (nat_le (entries_of v.shape.order) (unfinished v)) _ _ refl (closing_with v wish (taking (frames_taken wish.count) v.pool [])))))
 
 closing_submit : (v : View) (job : Submission) → (submit_of v job).1.closing ≡ v.closing
 closing_submit v job =
-    either_closing (v.last == 4294967295) v.closing _ _ refl (either_closing v.closing v.closing _ _ refl (either_closing (not (is_ready v.stage)) v.closing _ _ refl (closing_one v (wish_of v.offers job))))
+    either (λ (one : Result ℕ Refusal × View). one.1.closing ≡ v.closing) (v.last == 4294967295) _ _ refl (either (λ (one : Result ℕ Refusal × View). one.1.closing ≡ v.closing) v.closing _ _ refl (either (λ (one : Result ℕ Refusal × View). one.1.closing ≡ v.closing) (not (is_ready v.stage)) _ _ refl (closing_one v (wish_of v.offers job))))
 
 through_submit : (v : View) (job : Submission) → is_through v ≡ true → is_through (submit_of v job).1 ≡ true
 through_submit v job through = by_test (v.last == 4294967295) v.closing (both_true v.closing (length v.requests == 0) through).0
@@ -209,9 +207,6 @@ agreed_entries wished offered n agreed =
     let same : entries_of n ≡ entries_of (min wished 4) = ap entries_of (agreed.0 ∙ ap (λ (o : ℕ). min wished o) agreed.1) in omega arith
 
 -- so no more are unfinished than its ring has entries
-either_room : (b : Bool) (most : ℕ) (x y : Result ℕ Refusal × View) → unfinished x.1 ≤ most → unfinished y.1 ≤ most → unfinished (if b then x else y).1 ≤ most
-either_room true most x y p q = p
-either_room false most x y p q = q
 
 room_with : (v : View) (wish : Wish) (taken : Option (List ℕ × List Bool)) (most : ℕ) → unfinished v + 1 ≤ most → unfinished (submit_with v wish taken).1 ≤ most
 room_with v wish None most room = omega arith
@@ -220,9 +215,9 @@ room_with v wish (Some taken) most room = let longer = length-append v.requests 
 room_one : (v : View) (wish : Option Wish) (most : ℕ) → unfinished v ≤ most → entries_of v.shape.order ≤ most → unfinished (submit_one v wish).1 ≤ most
 room_one v None most was few = was
 room_one v (Some wish) most was few =
-    either_room (is_write wish.transfer && v.offers.read_only) most _ _ was
-    (either_room (nat_lt v.offers.sectors (wish.sector + named_of wish.transfer wish.count)) most _ _ was
-    (either_room (nat_lt (most_segments v.offers wish.transfer) (frames_for wish.count)) most _ _ was (by_test (nat_le (entries_of v.shape.order) (unfinished v)) refl)))
+    either (λ (one : Result ℕ Refusal × View). unfinished one.1 ≤ most) (is_write wish.transfer && v.offers.read_only) _ _ was
+    (either (λ (one : Result ℕ Refusal × View). unfinished one.1 ≤ most) (nat_lt v.offers.sectors (wish.sector + named_of wish.transfer wish.count)) _ _ was
+    (either (λ (one : Result ℕ Refusal × View). unfinished one.1 ≤ most) (nat_lt (most_segments v.offers wish.transfer) (frames_for wish.count)) _ _ was (by_test (nat_le (entries_of v.shape.order) (unfinished v)) refl)))
   where
     below : (count entries : ℕ) → nat_le entries count ≡ false → count + 1 ≤ entries
     below count entries e = grind (arith, nat_tests)
@@ -233,7 +228,7 @@ room_one v (Some wish) most was few =
     by_test false e = let less = below (unfinished v) (entries_of v.shape.order) e in room_with v wish (taking (frames_taken wish.count) v.pool []) most (omega arith)
 
 room_submit : (v : View) (job : Submission) (most : ℕ) → unfinished v ≤ most → (is_ready v.stage ≡ true → entries_of v.shape.order ≤ most) → unfinished (submit_of v job).1 ≤ most
-room_submit v job most was few = either_room (v.last == 4294967295) most _ _ was (either_room v.closing most _ _ was (by_test (is_ready v.stage) refl))
+room_submit v job most was few = either (λ (one : Result ℕ Refusal × View). unfinished one.1 ≤ most) (v.last == 4294967295) _ _ was (either (λ (one : Result ℕ Refusal × View). unfinished one.1 ≤ most) v.closing _ _ was (by_test (is_ready v.stage) refl))
   where
     by_test : (b : Bool) → is_ready v.stage ≡ b → unfinished (let x : Result ℕ Refusal × View = (if not b then (Err refusal.NotReady, v) else submit_one v (wish_of v.offers job)) in x.1) ≤ most
     by_test true ready = room_one v (wish_of v.offers job) most was (few ready)

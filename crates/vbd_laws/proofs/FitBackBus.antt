@@ -122,12 +122,7 @@ halts_ring reason r s here = rw (may reason, here) refl
   where
     may : (reason : BackHalt) → may_halt (ring_halt reason) ≡ true
     may (bus_halt.Gone own) = refl
-    may (bus_halt.Unplugged own) = refl
-    may bus_halt.BadState = refl
-    may (bus_halt.BadKey k) = refl
-    may (bus_halt.BadOrder own) = refl
-    may (bus_halt.BadPort port) = refl
-    may (bus_halt.MapRefused gref status) = refl
+    may other = refl
 
 -- a back whose port isn't bound unmaps the pages that it has mapped
 unbound_holds : (pages : List Mapping) (order : ℕ) (binds : Bool) → binds ≡ false → BackHolds (unbound pages) order (length pages) binds
@@ -245,16 +240,15 @@ reads_key P (key.RingRefOf page) None v all halts = by_order (v.terms.order == 0
     by_order false = halts
 reads_key P (key.RingRefOf page) (Some text) v all halts =
     reads_number P (with_gref v (after_page v.terms.order page)) (number_of text) (λ n. all _ (record { own = refl; features = refl; disk = refl; pages = refl; bound = refl; next = early_page v.terms.order page })) halts
-reads_key P key.RingRef None v all halts = halts
 reads_key P key.RingRef (Some text) v all halts =
     reads_number P (with_gref v key.EventChannel) (number_of text) (λ n. all _ (record { own = refl; features = refl; disk = refl; pages = refl; bound = refl; next = tt })) halts
-reads_key P key.EventChannel None v all halts = halts
 reads_key P key.EventChannel (Some text) v all halts =
     reads_number P (with_port v) (number_of text) (λ n. all _ (record { own = refl; features = refl; disk = refl; pages = refl; bound = refl; next = tt })) halts
 reads_key P key.Protocol text v all halts =
     reads_abi P (with_layout v) (layout_read text) (λ a. all _ (record { own = refl; features = refl; disk = refl; pages = refl; bound = refl; next = (refl, refl, refl) })) halts
 reads_key P key.FeaturePersistent text v all halts =
     reads_number P (with_persistent v) (count_read text) (λ n. all _ (record { own = refl; features = refl; disk = refl; pages = refl; bound = refl; next = (refl, refl, refl, refl) })) halts
+reads_key P other None v all halts = halts
 
 -- where the end of the ring stands as this is read or mapped next
 abbrev NextAt : BackBusStage → BackStage → Type 0
@@ -285,11 +279,7 @@ goes_reading b own t is next = absurd next
 
 pub waits_reading : (k : FrontKey) (own : BusState) (t : BackStage) → BackGoesWith (stage.ReadKey k) own t → (own ≡ state.InitWait) × (is_unbound t ≡ true)
 waits_reading key.FeaturePersistent own t goes = (goes.0, ap is_unbound goes.1)
-waits_reading key.RingPageOrder own t goes = (goes.0, ap is_unbound goes.1)
-waits_reading (key.RingRefOf page) own t goes = (goes.0, ap is_unbound goes.1)
-waits_reading key.RingRef own t goes = (goes.0, ap is_unbound goes.1)
-waits_reading key.EventChannel own t goes = (goes.0, ap is_unbound goes.1)
-waits_reading key.Protocol own t goes = (goes.0, ap is_unbound goes.1)
+waits_reading other own t goes = (goes.0, ap is_unbound goes.1)
 
 reading_on : (b : BackBusStage) (t : BackStage) → NextAt b t → is_halting b ≡ false
 reading_on (stage.ReadKey k) t next = refl
@@ -358,10 +348,8 @@ key_fits k text v r goes h shares placed served =
         subst (λ (x : ends.View). BackFits (settled x.stage u) x) (sym (taken u r may))
         (reading_fits key.Protocol v u (attached (shape_read u) u.grefs u.terms.port r) reads goes.0 (rw reads.next.0 refl) (maps_none (length v.pages) u.terms.order placed.1.pages, free) served)
     by_key key.FeaturePersistent goes placed u reads = on key.FeaturePersistent u reads goes placed.1.pages (rw reads.next.0 goes.1)
-    by_key key.RingPageOrder goes placed u reads = on key.RingPageOrder u reads goes placed.1.pages (early_next u.stage r.stage reads.next goes.1)
     by_key (key.RingRefOf page) goes placed u reads = on (key.RingRefOf page) u reads goes placed.1.pages (early_next u.stage r.stage reads.next goes.1)
-    by_key key.RingRef goes placed u reads = on key.RingRef u reads goes placed.1.pages (early_next u.stage r.stage reads.next goes.1)
-    by_key key.EventChannel goes placed u reads = on key.EventChannel u reads goes placed.1.pages (early_next u.stage r.stage reads.next goes.1)
+    by_key other goes placed u reads = on other u reads goes placed.1.pages (early_next u.stage r.stage reads.next goes.1)
 
 offered_fits : (next : Option BackKey) (v : BackView) (r : ends.View) → v.state ≡ state.Initialising → r.stage ≡ ring.InitWait → BackFits v r → is_some r.halted ≡ false → BackFits (settled r.stage (at (after_feature next) v)) r
 offered_fits (Some k) v r is here h served = record { goes = (is, here); held = h.held; halted = served }

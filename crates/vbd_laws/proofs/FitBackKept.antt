@@ -29,6 +29,7 @@ use Rattle.xenbus_state.specs.BackStep.{acted, kept_or_halted, after_state, unma
 use Rattle.vbd_back.specs.View.{View}
 use Rattle.vbd_back.specs.Ask as back
 use Rattle.vbd_back.specs.Step as back_step
+use Rattle.negotiation_laws.proofs.Choices.{either, unplugged_cases}
 use Rattle.vbd_laws.proofs.FitBackBus.{IsEarly, Follows, reads_key}
 
 -- what the negotiation becomes in a move of the back: what it is told, and a halt, keep this
@@ -84,8 +85,7 @@ HasFacts t v = facts_in v ≡ t
 
 facts_acted : (t : Facts) (act : BackAction) (v : BackView) → HasFacts t v → HasFacts t (acted act v)
 facts_acted t action.Nothing v is = is
-facts_acted t action.Connect v is = is
-facts_acted t (action.Halt reason) v is = is
+facts_acted t other v is = is
 
 facts_at : (t : Facts) (b : BackBusStage) (v : BackView) (x : BackAnswer) → HasFacts t v → HasFacts t (step_at b v x)
 facts_at t (stage.Publish k) v answer.Done is = is
@@ -105,18 +105,10 @@ facts_at t stage.ClosePort v answer.Done is = is
 facts_at t b v x is = is
 
 facts_told : (t : Facts) (v : BackView) (x : BackAnswer) → HasFacts t v → HasFacts t (step_of v x)
-facts_told t v x is = by_test (says_closing v)
-  where
-    by_test : (c : Bool) → HasFacts t (if c then record v { state = state.Closing } else step_at v.stage v x)
-    by_test true = is
-    by_test false = facts_at t v.stage v x is
+facts_told t v x is = either (HasFacts t) (says_closing v) (record v { state = state.Closing }) (step_at v.stage v x) is (facts_at t v.stage v x is)
 
 facts_stopped : (t : Facts) (v : BackView) → HasFacts t v → HasFacts t (stopped v)
-facts_stopped t v is = by_test (is_halting v.stage)
-  where
-    by_test : (c : Bool) → HasFacts t (if c then v else halted v)
-    by_test true = is
-    by_test false = is
+facts_stopped t v is = either (HasFacts t) (is_halting v.stage) v (halted v) is is
 
 -- it publishes its features
 abbrev pub is_publishing : BackBusStage → Bool
@@ -128,8 +120,6 @@ IsPast v = is_publishing v.stage ≡ false
 
 past_state : (s : BusState) → is_publishing (after_state s) ≡ false
 past_state state.InitWait = refl
-past_state state.Closing = refl
-past_state state.Closed = refl
 past_state s = refl
 
 past_fact : (k : Option BackKey) → is_publishing (after_fact k) ≡ false
@@ -143,8 +133,7 @@ past_up [] false own = refl
 
 past_acted : (act : BackAction) (v : BackView) → IsPast (acted act v)
 past_acted action.Nothing v = refl
-past_acted action.Connect v = refl
-past_acted (action.Halt reason) v = refl
+past_acted other v = refl
 
 past_early : (b : BackBusStage) → IsEarly b → is_publishing b ≡ false
 past_early (stage.ReadKey k) early = refl
@@ -177,11 +166,7 @@ past_at stage.ClosePort v answer.Done here past = refl
 past_at b v x here past = ap is_publishing here ∙ past
 
 past_told : (v : BackView) (x : BackAnswer) → IsPast v → IsPast (step_of v x)
-past_told v x past = by_test (says_closing v)
-  where
-    by_test : (c : Bool) → IsPast (if c then record v { state = state.Closing } else step_at v.stage v x)
-    by_test true = past
-    by_test false = past_at v.stage v x refl past
+past_told v x past = either IsPast (says_closing v) (record v { state = state.Closing }) (step_at v.stage v x) past (past_at v.stage v x refl past)
 
 -- this was said, once it has published all, or it has halted
 abbrev pub HasSaid : Type 0 → BackView → Type 0
@@ -223,15 +208,7 @@ said_moved said moves b x a has = ring_is (HasSaid said) (said_told said) (said_
 
 -- a close leaves them
 pub facts_closed : (v : BackView) → facts_in (unplugged v) ≡ facts_in v
-facts_closed v = by_test (is_halting v.stage)
-  where
-    by_test : (c : Bool) → facts_in (if c then v else record v { unplugged = true }) ≡ facts_in v
-    by_test true = refl
-    by_test false = refl
+facts_closed v = unplugged_cases (λ (u : BackView). facts_in u ≡ facts_in v) v refl refl
 
 pub stage_closed : (v : BackView) → (let u : BackView = unplugged v in u.stage) ≡ v.stage
-stage_closed v = by_test (is_halting v.stage)
-  where
-    by_test : (c : Bool) → (let u : BackView = if c then v else record v { unplugged = true } in u.stage) ≡ v.stage
-    by_test true = refl
-    by_test false = refl
+stage_closed v = unplugged_cases (λ (u : BackView). u.stage ≡ v.stage) v refl refl

@@ -304,16 +304,14 @@ begun_fits stage.Halted s v r x here e on goes h shares quiet moves allowed =
     let same : ring_step_at s r x ≡ r = ap (λ (t : BackStage). ring_step_at t r x) goes.1 in
     subst (λ (y : ends.View). BackFits (caught_up y (woken v x)) y) (sym same) (subst (λ (u : BackView). BackFits (caught_up r u) r) (sym (over_woken v x here on))
     (halting_on r v (h.halted ∙ ap is_halting here) (ap is_halting here) (subst (λ (b : BackBusStage). BackFits (settled_at b r.stage v) r) (sym here) h)))
-begun_fits (stage.Publish key) s v r x here e on goes h shares quiet moves allowed = absurd (true≢false (sym (ap is_between goes.1) ∙ quiet))
 begun_fits (stage.WriteState state.InitWait) s v r x here e on goes h shares quiet moves allowed = absurd (true≢false (sym (ap is_between goes.1) ∙ quiet))
 begun_fits (stage.WriteState state.Connected) s v r x here e on goes h shares quiet moves allowed = absurd (true≢false (sym (ap is_between goes.1) ∙ quiet))
 begun_fits (stage.WriteState state.Closing) s v r x here e on goes h shares quiet moves allowed = absurd (true≢false (sym (ap is_between goes) ∙ quiet))
 begun_fits (stage.WriteState state.Closed) s v r x here e on goes h shares quiet moves allowed = absurd (true≢false (sym (ap is_between goes.1) ∙ quiet))
 begun_fits (stage.WriteState own) s v r x here e on goes h shares quiet moves allowed = absurd goes
-begun_fits stage.Watch s v r x here e on goes h shares quiet moves allowed = absurd (true≢false (sym (ap is_between goes.1) ∙ quiet))
 begun_fits stage.ReadState s v r x here e on goes h shares quiet moves allowed = absurd (true≢false (sym (reads_between v.state s goes) ∙ quiet))
 begun_fits (stage.ReadKey k) s v r x here e on goes h shares quiet moves allowed = absurd (true≢false (sym (unbound_between s (waits_reading k v.state s goes).1) ∙ quiet))
-begun_fits (stage.PublishFact key) s v r x here e on goes h shares quiet moves allowed = absurd (true≢false (sym (ap is_between goes.1) ∙ quiet))
+begun_fits other s v r x here e on goes h shares quiet moves allowed = absurd (true≢false (sym (ap is_between goes.1) ∙ quiet))
 
 pub ring_fits : (v : BackView) (r : ends.View) (x : BackAnswer) → BackFits v r → BackShares v r → bus_moves (ask_of v) r.stage ≡ false → ring_moves (ask_of v) r.stage ≡ true → IsAnswer (ring_ask_at r.stage r) x
     → BackFits (caught_up (ring_step_of r x) (followed (ask_of v) v x)) (ring_step_of r x)

@@ -84,15 +84,6 @@ step_all ring.Loop v x still = loop_terms v (next_reply v) x
 step_all (ring.Fetch k) v (answer.Word word) still = either (k + 1 == entry_words_of v.shape.abi) (ring_step.fetched v (v.ring.entry ++ word ∷ [])) (record v { ring = record v.ring { entry = v.ring.entry ++ word ∷ [] }; stage = ring.Fetch (k + 1) }) (terms_in v) refl refl
 step_all (ring.ResponseEvent old) v (answer.Word event) still = refl
 step_all ring.LookAgain v (answer.Word word) still = looked_terms v word (record v { ring = record v.ring { seen = word; asleep = true }; stage = ring.Loop }) refl
-step_all (ring.ReplyHigh r) v x still = refl
-step_all (ring.ReplyLast r) v x still = refl
-step_all (ring.Producer r) v x still = refl
-step_all (ring.ProducerFence old) v x still = refl
-step_all ring.Send v x still = refl
-step_all ring.StoreEvent v x still = refl
-step_all ring.EventFence v x still = refl
-step_all (ring.Abort m) v x still = refl
-step_all ring.ClosePort v x still = refl
 step_all s v x still = refl
 
 -- the terms alone
@@ -184,8 +175,7 @@ spoken_pages stage.ReadState v (answer.Key text) says = by_act (back_action v.st
   where
     by_act : (act : BackAction) → (acted act v).pages ≡ v.pages
     by_act action.Nothing = refl
-    by_act action.Connect = refl
-    by_act (action.Halt reason) = refl
+    by_act other = refl
 spoken_pages (stage.ReadKey k) v (answer.Key text) says = reads_key (λ (o : Option BackView). (kept_or_halted o v).pages ≡ v.pages) k text v (λ u reads. reads.pages) refl
 spoken_pages (stage.PublishFact k) v answer.Done says = refl
 spoken_pages stage.UnmapPage v x says = absurd (unmap_says v.pages says)
@@ -222,10 +212,7 @@ key_terms k text v r here goes shares =
     by_key key.FeaturePersistent goes u reads = λ has on.
         let have = shares.terms has (ap is_halting here) in
         record { shape = have.shape ∙ sym reads.next.1; grefs = have.grefs ∙ sym reads.next.2; port = have.port ∙ sym reads.next.3 }
-    by_key key.RingPageOrder goes u reads = λ has on. absurd (waits_not r goes.1 has)
-    by_key (key.RingRefOf page) goes u reads = λ has on. absurd (waits_not r goes.1 has)
-    by_key key.RingRef goes u reads = λ has on. absurd (waits_not r goes.1 has)
-    by_key key.EventChannel goes u reads = λ has on. absurd (waits_not r goes.1 has)
+    by_key other goes u reads = λ has on. absurd (waits_not r goes.1 has)
 
 same_terms : (b : BackBusStage) (v w : BackView) (r : ends.View) → v.stage ≡ b → is_halting b ≡ false → IsAlike v w → BackShares v r → has_terms r.stage ≡ true → is_halting w.stage ≡ false → HaveTerms r w
 same_terms b v w r here on same shares has still = have_alike r v w same (shares.terms has (ap is_halting here ∙ on))
@@ -242,9 +229,8 @@ heard_terms stage.Watch v r answer.Done here goes shares says allowed = same_ter
 heard_terms stage.ReadState v r (answer.Key text) here goes shares says allowed = by_act (back_action v.state v.unplugged (state_read text))
   where
     by_act : (act : BackAction) → TermsAfter (action_halt act) false (acted act v) r
-    by_act action.Nothing = same_terms stage.ReadState v _ r here refl (record { pages = refl; terms = refl; grefs = refl }) shares
-    by_act action.Connect = same_terms stage.ReadState v _ r here refl (record { pages = refl; terms = refl; grefs = refl }) shares
     by_act (action.Halt reason) = λ has on. absurd (true≢false on)
+    by_act other = same_terms stage.ReadState v _ r here refl (record { pages = refl; terms = refl; grefs = refl }) shares
 heard_terms (stage.ReadKey k) v r (answer.Key text) here goes shares says allowed = key_terms k text v r here goes shares
 heard_terms (stage.PublishFact k) v r answer.Done here goes shares says allowed = same_terms (stage.PublishFact k) v _ r here refl (record { pages = refl; terms = refl; grefs = refl }) shares
 heard_terms (stage.Publish k) v r x here goes shares says allowed = absurd allowed

@@ -134,8 +134,7 @@ map_unbound v h gref (Err refusal) was = past_unbound (unbound v.pages) h.channe
 
 bind_unbound : (v : View) (h : Hypervisor) (p : ℕ) (state : PortState) → let a = bind_act h p state in IsUnbound (step_at stage.Bind v a.answer).stage a.under.channels
 bind_unbound v h p port.Unbound = tt
-bind_unbound v h p port.Closed = past_unbound (unbound v.pages) h.channels (unbound_past v.pages)
-bind_unbound v h p port.Bound = past_unbound (unbound v.pages) h.channels (unbound_past v.pages)
+bind_unbound v h p other = past_unbound (unbound v.pages) h.channels (unbound_past v.pages)
 
 unbound_at : (s : BackStage) (v : View) (h : Hypervisor) (o : Outcome) (a : BackAct) → v.stage ≡ s → IsUnbound s h.channels → back_act h back_mover.Back (ask_at s v) o ≡ Some a
     → IsUnbound (step_at s v a.answer).stage a.under.channels

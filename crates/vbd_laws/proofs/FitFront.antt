@@ -69,11 +69,7 @@ enters_abi s f = enters_cases (λ (x : ends.View) shown. x.shape.abi ≡ f.shape
   where
     by_state : (s : FrontState) → (in_state s f).shape.abi ≡ f.shape.abi
     by_state (enter.Agreed order) = refl
-    by_state (enter.Connected offers) = refl
-    by_state enter.Closing = refl
-    by_state enter.Leaving = refl
-    by_state enter.Closed = refl
-    by_state (enter.Broken word) = refl
+    by_state other = refl
 
 all_abi : (states : List FrontState) (f : ends.View) → (front_step.all_entered states f).shape.abi ≡ f.shape.abi
 all_abi [] f = refl
@@ -182,11 +178,7 @@ told_reading w x fit is = told_reads (Says w) w.front (front_view.is_unoccupied 
 -- a state that the end of the ring enters leaves no more requests unfinished
 entered_fewer : (s : FrontState) (f : ends.View) → unfinished (in_state s f) ≤ unfinished f
 entered_fewer (enter.Agreed order) f = omega arith
-entered_fewer (enter.Connected offers) f = omega arith
-entered_fewer enter.Closing f = omega arith
-entered_fewer enter.Leaving f = omega arith
-entered_fewer enter.Closed f = omega arith
-entered_fewer (enter.Broken word) f = omega arith
+entered_fewer other f = omega arith
 
 pub all_fewer : (states : List FrontState) (f : ends.View) → unfinished (front_step.all_entered states f) ≤ unfinished f
 all_fewer [] f = omega arith

@@ -67,8 +67,6 @@ goes_closing b v r goes = goes
 
 ordered_closing : (b : FrontBusStage) (v : FrontView) (n : ℕ) → FrontOrdered b v n → FrontOrdered b (record v { closing = true }) n
 ordered_closing (stage.RingWord word) v n ordered = ordered
-ordered_closing (stage.Grant page) v n ordered = ordered
-ordered_closing stage.NewPort v n ordered = ordered
 ordered_closing b v n ordered = ordered
 
 unopened : (r : FrontStage) → is_broken r ≡ true → is_open r ≡ false

@@ -1,5 +1,5 @@
 -- The front reads what its back offers only once the back has said all of it, whatever the front's own keys say.
-use Rattle.std.proofs.Common.{◌≡◌, ℕ, ◌+◌, ◌==◌, ◌||◌, ◌&&◌, Bool, true, false, List, refl, if◌then◌else◌}
+use Rattle.std.proofs.Common.{◌≡◌, ℕ, ◌+◌, ◌==◌, ◌&&◌, Bool, true, false, List, refl, if◌then◌else◌}
 use Rattle.std.specs.Prelude.{Option, Some, None, nat_lt}
 use Rattle.blk_base.specs.declared.ask.FrontAnswer.{FrontAnswer}
 use Rattle.blk_base.specs.declared.ask.FrontAnswer.TheVariants as answer
@@ -20,7 +20,7 @@ use Rattle.xenbus_state.specs.States.{state_read}
 use Rattle.xenbus_state.specs.Tables.{front_action, on_closing, on_gone, on_connected}
 use Rattle.xenbus_state.specs.Programs.{next_feature, next_fact, next_published}
 use Rattle.xenbus_state.specs.Reading.{count_read, fact_read}
-use Rattle.xenbus_state.specs.FrontView.{FrontView, ring_order, pages_of, closed, is_broken}
+use Rattle.xenbus_state.specs.FrontView.{FrontView, ring_order, pages_of, closed}
 use Rattle.xenbus_state.specs.FrontAsk.{leaving, closing_stage, due, ask_at, ask_of}
 use Rattle.xenbus_state.specs.FrontStep.{at, acted, after_feature, feature_step, after_fact, fact_step, after_state, after_grants, after_published, after, step_at, step_of}
 use Rattle.vbd_front.specs.View.{View}
@@ -29,6 +29,7 @@ use Rattle.vbd_front.specs.Ask as front
 use Rattle.vbd_front.specs.Step as front_step
 use Rattle.vbd_front.specs.Step.{settled_at, bus_told}
 use Rattle.vbd_model.specs.Fit.{IsServiceSaid, ReadsOffer}
+use Rattle.negotiation_laws.proofs.Choices.{closed_cases, either}
 use Rattle.vbd_laws.proofs.FitFrontBus.{due_cases}
 use Rattle.vbd_laws.proofs.FitSaid.{all_kept}
 
@@ -86,11 +87,8 @@ publishes_offered own closing idle (Some state.Connected) e = absurd (connected_
 publishes_offered own closing idle (Some state.Closing) e = absurd (closing_first own idle e)
 publishes_offered own closing idle (Some state.Closed) e = absurd (gone_first idle 6 e)
 publishes_offered own closing idle (Some state.Unknown) e = absurd (gone_first idle 0 e)
-publishes_offered own closing idle (Some state.Initialising) e = absurd (cc)
-publishes_offered own closing idle (Some state.Initialised) e = absurd (cc)
-publishes_offered own closing idle (Some state.Reconfiguring) e = absurd (cc)
-publishes_offered own closing idle (Some state.Reconfigured) e = absurd (cc)
 publishes_offered own closing idle None e = absurd (cc)
+publishes_offered own closing idle (Some other) e = absurd (cc)
 
 -- what is said stays said
 pub reads_kept : (P Q : BackKey → Type 0) → ((k : BackKey) → P k → Q k) → (s : FrontBusStage) → ReadsOffer P s → ReadsOffer Q s
@@ -101,12 +99,7 @@ reads_kept P Q keeps s is = tt
 module _ (says : BackKey → Type 0) where
   acted_reads : (act : FrontAction) (v : FrontView) → (act ≡ action.Publish → IsServiceSaid says) → ReadsOffer says (acted act v).stage
   acted_reads action.Publish v may = (tt, may refl)
-  acted_reads action.Nothing v may = tt
-  acted_reads action.Connect v may = tt
-  acted_reads action.Close v may = tt
-  acted_reads action.CloseAndConnect v may = tt
-  acted_reads action.Leave v may = tt
-  acted_reads (action.Break word) v may = tt
+  acted_reads other v may = tt
 
   next_reads : (k : BackKey) → IsServiceSaid says → ReadsOffer says (after_feature (next_feature k))
   next_reads key.FeatureBarrier is = (tt, is)
@@ -128,10 +121,6 @@ module _ (says : BackKey → Type 0) where
       by_next None = tt
       by_next (Some k) = tt
 
-  either_reads : (b : Bool) (s t : FrontBusStage) → ReadsOffer says s → ReadsOffer says t → ReadsOffer says (if b then s else t)
-  either_reads true s t p q = p
-  either_reads false s t p q = q
-
   published_reads : (next : Option FrontKey) → ReadsOffer says (after_published next)
   published_reads None = tt
   published_reads (Some k) = tt
@@ -146,10 +135,10 @@ module _ (says : BackKey → Type 0) where
 
   after_reads : (s : FrontBusStage) (v : FrontView) → ReadsOffer says s → ReadsOffer says (after s v)
   after_reads stage.Start v is = tt
-  after_reads (stage.RingWord word) v is = either_reads (word == 15) (stage.Grant 0) (stage.RingWord (word + 1)) tt tt
-  after_reads (stage.Grant page) v is = either_reads (nat_lt (page + 1) (pages_of v)) (stage.Grant (page + 1)) stage.NewPort tt tt
+  after_reads (stage.RingWord word) v is = either (ReadsOffer says) (word == 15) (stage.Grant 0) (stage.RingWord (word + 1)) tt tt
+  after_reads (stage.Grant page) v is = either (ReadsOffer says) (nat_lt (page + 1) (pages_of v)) (stage.Grant (page + 1)) stage.NewPort tt tt
   after_reads (stage.Publish k) v is = published_reads (next_published (ring_order v) k)
-  after_reads (stage.EndGrant page) v is = either_reads (nat_lt (page + 1) (pages_of v)) (stage.EndGrant (page + 1)) stage.EndOtherGrants tt tt
+  after_reads (stage.EndGrant page) v is = either (ReadsOffer says) (nat_lt (page + 1) (pages_of v)) (stage.EndGrant (page + 1)) stage.EndOtherGrants tt tt
   after_reads stage.EndOtherGrants v is = grants_read v.port
   after_reads s v is = is
 
@@ -191,8 +180,4 @@ module _ (says : BackKey → Type 0) where
   told_reads v idle x may is = let u : FrontView = step_of v idle x in settled_reads (ask_of u idle) u idle (step_reads (due v idle) v idle x may (due_reads v idle is))
 
   pub closed_reads : (v : FrontView) → ReadsOffer says v.stage → ReadsOffer says (closed v).stage
-  closed_reads v is = by_test (v.closing || is_broken v.stage)
-    where
-      by_test : (b : Bool) → ReadsOffer says (if b then v else record v { closing = true }).stage
-      by_test true = is
-      by_test false = is
+  closed_reads v is = closed_cases (λ (u : FrontView). ReadsOffer says u.stage) v is is

@@ -75,10 +75,7 @@ looked_steps s v word otherwise h =
 
 begun_steps : (v : View) (r : Request) (way : Transfer) → Steps stage.Loop v (begun v r way)
 begun_steps v r transfer.Read = goes_to stage.Loop v (if is_indirect r.count then stage.Pages 1 else stage.GrantFence 0) (either_on (is_indirect r.count) (stage.Pages 1) (stage.GrantFence 0) (refl, refl) (refl, refl))
-begun_steps v r (transfer.Write tag) = (refl, λ none. none, λ up. refl, omega arith)
-begun_steps v r (transfer.Barrier tag) = (refl, λ none. none, λ up. refl, omega arith)
-begun_steps v r transfer.Flush = (refl, λ none. none, λ up. refl, omega arith)
-begun_steps v r (transfer.Discard sectors) = (refl, λ none. none, λ up. refl, omega arith)
+begun_steps v r other = (refl, λ none. none, λ up. refl, omega arith)
 
 data_stage_on : (r : Option Request) (n : ℕ) → IsOn (data_stage r n)
 data_stage_on None n = (refl, refl)

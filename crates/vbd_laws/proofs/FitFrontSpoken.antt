@@ -132,8 +132,6 @@ acted_settles offers act v f idle suits leaves free h rests ordered = by_act act
 
     by_act : (act : FrontAction) → SuitsFront v.state act → LeavesIdle idle act → Settles idle (acted act v) (all_entered (states_of_news offers (action_news act v.closing)) f)
     by_act action.Nothing suits leaves = settles_rest idle (acted action.Nothing v) f refl still rests (fits_at v (acted action.Nothing v) f (inl rests) refl refl ordered h)
-    by_act action.Publish suits leaves = fits_at v (acted action.Publish v) f (let here = rw suits at rests in (suits, here.0, here.1)) refl refl ordered h
-    by_act action.Connect suits leaves = fits_at v (acted action.Connect v) f (let here = rw suits at rests in (suits, here.0, here.1)) refl refl ordered h
     by_act action.Close suits leaves =
         begun offers (λ (x : ends.View). Settles idle (acted action.Close v) x) v.closing f same_closing opened
         (settles_rest idle (acted action.Close v) (record f { closing = true }) refl still rests (begun_fits v (acted action.Close v) f opened (inl rests) refl refl ordered h))
@@ -142,6 +140,7 @@ acted_settles offers act v f idle suits leaves free h rests ordered = by_act act
         (begun_fits v (acted action.CloseAndConnect v) f opened (let here = rw suits at rests in (suits, here.0, here.1)) refl refl ordered h)
     by_act action.Leave suits leaves = begun offers (λ (x : ends.View). Settles idle (acted action.Leave v) x) v.closing f same_closing opened (gone v.state v.gone v.port refl refl refl leaves rests)
     by_act (action.Break word) suits leaves = breaks word v f opened ordered
+    by_act other suits leaves = fits_at v (acted other v) f (let here = rw suits at rests in (suits, here.0, here.1)) refl refl ordered h
 
 -- a key of the back was read: the last one says how large a ring the back takes
 feature_settles : (offers : Offers) (k : BackKey) (n : Option ℕ) (v : FrontView) (f : ends.View) (idle : Bool) → v.state ≡ state.Initialising → f.stage ≡ ring.RingWord 0 → v.port ≡ None

@@ -1,6 +1,6 @@
 -- An answer leaves the front's layout and order, and one that says no more than that a thing is done leaves what it read of the back.
-use Rattle.std.proofs.Common.{◌≡◌, ℕ, Bool, true, false, if◌then◌else◌, refl, ◌∙◌}
-use Rattle.std.specs.Prelude.{Option, Some, None, ◌||◌}
+use Rattle.std.proofs.Common.{◌≡◌, ℕ, Bool, false, refl, ◌∙◌}
+use Rattle.std.specs.Prelude.{Option, Some, None}
 use Rattle.blk_base.specs.declared.ask.FrontAnswer.{FrontAnswer}
 use Rattle.blk_base.specs.declared.ask.FrontAnswer.TheVariants as answer
 use Rattle.blk_front.specs.declared.stage.FrontStage.{FrontStage}
@@ -17,11 +17,12 @@ use Rattle.xenbus_state.specs.declared.front.FrontBusAsk.TheVariants as ask
 use Rattle.xenbus_state.specs.States.{state_read}
 use Rattle.xenbus_state.specs.Tables.{front_action}
 use Rattle.xenbus_state.specs.Reading.{count_read, fact_read}
-use Rattle.xenbus_state.specs.FrontView.{FrontView, closed, is_broken as is_broken_bus}
+use Rattle.xenbus_state.specs.FrontView.{FrontView, closed}
 use Rattle.xenbus_state.specs.FrontAsk.{due, ask_of}
 use Rattle.xenbus_state.specs.FrontStep.{at, acted, feature_step, fact_step, step_at, step_of}
 use Rattle.vbd_front.specs.View.{is_broken}
 use Rattle.vbd_front.specs.Step.{settled_at, bus_told, woken, followed, waited}
+use Rattle.negotiation_laws.proofs.Choices.{closed_cases}
 
 pub record Terms (v u : FrontView) : Type 0 where
   pub abi : u.abi ≡ v.abi
@@ -32,12 +33,7 @@ same_terms v = record { abi = refl; order = refl }
 
 terms_acted : (act : FrontAction) (v : FrontView) → Terms v (acted act v)
 terms_acted action.Nothing v = record { abi = refl; order = refl }
-terms_acted action.Publish v = record { abi = refl; order = refl }
-terms_acted action.Connect v = record { abi = refl; order = refl }
-terms_acted action.Close v = record { abi = refl; order = refl }
-terms_acted action.CloseAndConnect v = record { abi = refl; order = refl }
-terms_acted action.Leave v = record { abi = refl; order = refl }
-terms_acted (action.Break word) v = record { abi = refl; order = refl }
+terms_acted other v = record { abi = refl; order = refl }
 
 terms_feature : (k : BackKey) (n : Option ℕ) (v : FrontView) → Terms v (feature_step k n v)
 terms_feature k None v = record { abi = refl; order = refl }
@@ -78,7 +74,6 @@ found v = (v.features, v.disk)
 
 found_done : (s : FrontBusStage) (v : FrontView) (idle : Bool) → found (step_at s v idle answer.Done) ≡ found v
 found_done (stage.WriteState s) v idle = refl
-found_done stage.ClosePort v idle = refl
 found_done s v idle = refl
 
 pub found_told : (v : FrontView) (idle : Bool) → found (bus_told idle v answer.Done) ≡ found v
@@ -111,8 +106,4 @@ terms_waited ask.Wait v idle x = terms_woken false v idle x
 terms_waited b v idle x = same_terms v
 
 pub terms_closed : (v : FrontView) → Terms v (closed v)
-terms_closed v = by_test (v.closing || is_broken_bus v.stage)
-  where
-    by_test : (b : Bool) → Terms v (if b then v else record v { closing = true })
-    by_test true = same_terms v
-    by_test false = record { abi = refl; order = refl }
+terms_closed v = closed_cases (Terms v) v (same_terms v) (record { abi = refl; order = refl })

@@ -64,8 +64,6 @@ with_long (Some e) requests = let more = placed_long e.request requests in omega
 fewer : (s : FrontStage) (ending : Option Ending) (requests : List Request) → length (requests_after s ending requests) + ending_of (stage_after s) ≤ length requests + ending_of s
 fewer (ring_stage.GrantRead place) ending requests = let long = with_long ending requests in omega arith
 fewer (ring_stage.GrantEnd place before) ending requests = let long = with_long ending requests in omega arith
-fewer (ring_stage.ReadData n) ending requests = omega arith
-fewer (ring_stage.LeftData n) ending requests = omega arith
 fewer s ending requests = omega arith
 
 -- the order of its ring is the one that it wishes, or that was agreed

@@ -9,13 +9,11 @@ use Rattle.blk_base.specs.declared.parts.End.TheVariants as end
 use Rattle.blk_base.specs.declared.ask.FrontAsk.{FrontAsk}
 use Rattle.blk_base.specs.declared.ask.BackAsk.TheVariants as back_ask
 use Rattle.blk_base.specs.declared.moves.BackMover.TheVariants as back_mover
-use Rattle.schedule_text.specs.declared.line.Detail.{Detail}
 use Rattle.schedule_text.specs.declared.line.Detail.TheVariants.{Moves as AllMoves}
 use Rattle.blk_base.specs.declared.moves.Move.TheVariants as moves
 use Rattle.blk_base.specs.declared.moves.Mover.TheVariants as mover
 use Rattle.schedule_text.specs.declared.line.Line.{Line}
 use Rattle.schedule_text.specs.declared.line.Line.TheVariants as lines
-use Rattle.schedule_text.specs.Recorder.{kept_of}
 use Rattle.hypervisor.specs.Hypervisor.{Hypervisor}
 use Rattle.hypervisor.specs.Act.{FrontAct, BackAct, Outcome, front_act, back_act}
 use Rattle.blk_front.specs.declared.state.FrontState.TheVariants as enter
@@ -33,7 +31,6 @@ use Rattle.xenbus_state.specs.declared.keys.FrontKey.TheVariants as key
 use Rattle.negotiation_laws.specs.Negotiation.{back_state, front_path}
 use Rattle.split_model.specs.World as rings
 use Rattle.split_model.specs.Happening as ring
-use Rattle.split_model.specs.Report as ring_report
 use Rattle.split_model.specs.Shown.{front_lines, back_lines, halt_lines}
 use Rattle.split_model.proofs.Acting.{front_acts, FrontEvent, back_acts, BackMapRefused, BackBindRefused, BackGet, BackSet}
 use Rattle.split_model.proofs.SafeAnswers.{IsJobs, jobs_of}
@@ -45,12 +42,10 @@ use Rattle.vbd_front.specs.Step as front_step
 use Rattle.vbd_back.specs.View as back_view
 use Rattle.vbd_back.specs.Step as back_step
 use Rattle.vbd_model.specs.World.{World, start_of, frontend_of, backend_of}
-use Rattle.vbd_model.specs.Happening.{Happening, FrontMoves, BackMoves, JobMoves, Closes, Suspends, all_does, does, front_turn, back_turn, front_bus, back_bus, renewed_bus, happens, lines_at, lines_of, after as after_all}
+use Rattle.vbd_model.specs.Happening.{Happening, FrontMoves, BackMoves, JobMoves, Closes, Suspends, does, front_turn, back_turn, front_bus, back_bus, renewed_bus, happens, lines_at, lines_of, after as after_all}
 use Rattle.vbd_model.specs.News.{news_lines}
 use Rattle.vbd_model.specs.Fit.{IsFit}
 use Rattle.vbd_model.specs.Report.{report_of, ended_report_of}
-use Rattle.vbd_model.proofs.Running.{report_lift, ended_report_lift}
-use Rattle.move_laws.proofs.Recorded.{report_kept, ended_kept}
 use Rattle.vbd_laws.specs.Moves.{IsFrontMove, IsBackMove, IsClose, IsNoMove}
 use Rattle.vbd_laws.specs.Halts.{BackSight, order_said, new_back, told, after, from, said_by, IsHaltAt, HaltsByCauses, EachReportHalts, EachEndedHalts, EachHaltIsWorded, asked_after, asked_by}
 use Rattle.vbd_laws.proofs.FitChannels.{IsOfJob}
@@ -63,6 +58,7 @@ use Rattle.vbd_laws.proofs.MovesFront.{front_move_is, front_move_none, close_is}
 use Rattle.vbd_laws.proofs.MovesBack.{back_move_is, back_move_none}
 use Rattle.vbd_laws.proofs.Fit.{fit_start, fit_happens}
 use Rattle.vbd_laws.proofs.HaltsLines.{AllFollow, from-append, follows_on, all_worded, is_idle, IsIdle, idle_follow, halted_by, Ends, ends, rests_due}
+use Rattle.vbd_laws.proofs.Recorded.{report_recorded, ended_recorded}
 
 -- what the lines say is what the machine knows, and no halt is due
 pub record Knowing (asked : Bool) (k : BackSight) (w : World) : Type 0 where
@@ -317,24 +313,11 @@ ended_runs config history few =
     let last = at_end history false new_back (start_of config) (fit_start config few) (λ over. absurd (true≢false (sym over))) (starts config) in
     obeys_more IsHaltAt (report_of config AllMoves history) lines.End (report_runs config history few) (record { halts = sym last.knows.due; rests = λ halted. refl })
 
--- what a recorder of moves keeps is all
-all_kept : (config : Options) (history : List Happening) → kept_of AllMoves (report_of config AllMoves history) ≡ report_of config AllMoves history
-all_kept config history =
-    let lift = report_lift config AllMoves history in
-    ap (kept_of AllMoves) lift ∙ (report_kept config (all_does history (start_of config)) ∙ sym lift)
-
-ended_all : (config : Options) (history : List Happening) → kept_of AllMoves (ended_report_of config AllMoves history) ≡ ended_report_of config AllMoves history
-ended_all config history =
-    let lift = ended_report_lift config AllMoves history in
-    ap (kept_of AllMoves) lift ∙ (ended_kept config (all_does history (start_of config)) ∙ sym lift)
-
 pub report_halts : EachReportHalts
-report_halts config detail history few same =
-    subst (λ (d : Detail). HaltsByCauses (kept_of d (report_of config d history))) (sym same) (subst (λ (ls : List Line). HaltsByCauses ls) (sym (all_kept config history)) (report_runs config history few))
+report_halts config detail history few same = report_recorded HaltsByCauses config detail history same (report_runs config history few)
 
 pub ended_halts : EachEndedHalts
-ended_halts config detail history few same =
-    subst (λ (d : Detail). HaltsByCauses (kept_of d (ended_report_of config d history))) (sym same) (subst (λ (ls : List Line). HaltsByCauses ls) (sym (ended_all config history)) (ended_runs config history few))
+ended_halts config detail history few same = ended_recorded HaltsByCauses config detail history same (ended_runs config history few)
 
 -- the word of each halt for a front that is gone
 fit_after : (history : List Happening) (w : World) → IsFit w → IsFit (after_all history w)

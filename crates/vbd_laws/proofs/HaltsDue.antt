@@ -115,12 +115,11 @@ read_bad (key.RingRefOf page) None v = by_order (v.terms.order == 0)
     by_order true = refl
     by_order false = refl
 read_bad (key.RingRefOf page) (Some text) v = by_read (key.RingRefOf page) (number_of text) _
-read_bad key.RingRef None v = refl
 read_bad key.RingRef (Some text) v = by_read key.RingRef (number_of text) _
-read_bad key.EventChannel None v = refl
 read_bad key.EventChannel (Some text) v = by_read key.EventChannel (number_of text) _
 read_bad key.Protocol text v = by_read key.Protocol (layout_read text) _
 read_bad key.FeaturePersistent text v = by_read key.FeaturePersistent (count_read text) _
+read_bad other None v = refl
 
 -- such a key has no other word
 key_word : (asked : Bool) (k : FrontKey) (w : Option BackView) → IsWordedReason asked (read_halts k w)

@@ -45,12 +45,8 @@ page_at_last (c ∷ digits) some = refl
 
 key_found : (k : FrontKey) → IsReadKey k → key_at (front_path k) ≡ Some k
 unfolding key_at page_path
-key_found key.RingPageOrder is = refl
-key_found key.RingRef is = refl
-key_found key.EventChannel is = refl
-key_found key.Protocol is = refl
-key_found key.FeaturePersistent is = refl
 key_found (key.RingRefOf page) is = page_at_last (decimal page) (decimal_nonempty page (omega arith)) ∙ page_found 16 page is (omega arith)
+key_found other is = refl
 
 -- and no key lies where the front's state does
 pub read_key : (k : FrontKey) (v : BackSight) (text : Option (List ℕ)) → IsReadKey k → read_halt v (front_path k) text ≡ key_halt v.order (Some k) text

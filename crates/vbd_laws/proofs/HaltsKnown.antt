@@ -174,12 +174,11 @@ key_known asked known key.RingPageOrder None v here has = order_known asked know
 key_known asked known key.RingPageOrder (Some text) v here has = ordered asked known v (order_of (number_of text)) here has
 key_known asked known (key.RingRefOf page) None v here has = known_kept asked known v _ has (page_keeps (v.terms.order == 0) v (key.RingRefOf page) here)
 key_known asked known (key.RingRefOf page) (Some text) v here has = known_kept asked known v _ has (kept_keeps (number_of text) v _ (λ x. learnt v _ (key.RingRefOf page) here refl refl refl))
-key_known asked known key.RingRef None v here has = known_kept asked known v (halted v) has (halts_on v (halted v) refl refl refl refl)
 key_known asked known key.RingRef (Some text) v here has = known_kept asked known v _ has (kept_keeps (number_of text) v _ (λ x. learnt v _ key.RingRef here refl refl refl))
-key_known asked known key.EventChannel None v here has = known_kept asked known v (halted v) has (halts_on v (halted v) refl refl refl refl)
 key_known asked known key.EventChannel (Some text) v here has = known_kept asked known v _ has (kept_keeps (number_of text) v _ (λ x. learnt v _ key.EventChannel here refl refl refl))
 key_known asked known key.Protocol text v here has = known_kept asked known v _ has (kept_keeps (layout_read text) v _ (λ x. learnt v _ key.Protocol here refl refl refl))
 key_known asked known key.FeaturePersistent text v here has = known_kept asked known v _ has (kept_keeps (count_read text) v _ (λ x. learnt v _ key.FeaturePersistent here refl refl refl))
+key_known asked known other None v here has = known_kept asked known v (halted v) has (halts_on v (halted v) refl refl refl refl)
 
 -- and of its own state, as it writes it
 closing_known : (asked : Bool) (k : BackSight) (v u : BackView) → Knows asked k v → u.terms.order ≡ v.terms.order → is_halting u.stage ≡ true → Knows asked k u
@@ -232,14 +231,7 @@ says_known asked k v says has =
 -- another key of its own
 pub set_other : (k : BackSight) (own : BackKey) (text : List ℕ) → with_set k (path_under end.Back (back_name own)) text ≡ k
 set_other k own_key.FeatureBarrier text = refl
-set_other k own_key.FeatureFlushCache text = refl
-set_other k own_key.FeatureDiscard text = refl
-set_other k own_key.FeaturePersistent text = refl
-set_other k own_key.FeatureMaxIndirectSegments text = refl
-set_other k own_key.MaxRingPageOrder text = refl
-set_other k own_key.Sectors text = refl
-set_other k own_key.SectorSize text = refl
-set_other k own_key.Info text = refl
+set_other k other text = refl
 
 pub feature_going : (next : Option BackKey) → is_halting (after_feature next) ≡ false
 feature_going None = refl

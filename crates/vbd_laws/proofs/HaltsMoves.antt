@@ -37,6 +37,7 @@ use Rattle.vbd_back.specs.Step as back_step
 use Rattle.vbd_model.specs.World.{World, backend_of}
 use Rattle.vbd_model.specs.Happening.{back_turn}
 use Rattle.vbd_model.specs.Fit.{IsFit, BackGoesWith}
+use Rattle.negotiation_laws.proofs.Choices.{either as either_way}
 use Rattle.vbd_laws.specs.Halts.{BackSight, due_after, told, is_work}
 use Rattle.vbd_laws.proofs.FitBackBus.{halts_ring, reads_between, waits_reading}
 use Rattle.vbd_laws.proofs.HaltsKnown.{Knows, Keeps, known_kept, keeps_same, halts_on, silent_step, says_not}
@@ -61,11 +62,7 @@ settled_keeps s v = by_stage v.stage s refl
 
 halted_keeps : (why : Option Halt) (v : BackView) → Keeps v (back_step.bus_halted why v)
 halted_keeps None v = keeps_same v
-halted_keeps (Some why) v = by_test (is_halting v.stage)
-  where
-    by_test : (b : Bool) → Keeps v (if b then v else halted v)
-    by_test true = keeps_same v
-    by_test false = halts_on v (halted v) refl refl refl refl
+halted_keeps (Some why) v = either_way (Keeps v) (is_halting v.stage) v (halted v) (keeps_same v) (halts_on v (halted v) refl refl refl refl)
 
 woken_keeps : (v : BackView) (x : BackAnswer) → back.speaks (bus_asks.ask_of v) ≡ false → Keeps v (back_step.woken v x)
 woken_keeps v (answer.Watched path) quiet = silent_step v (answer.Watched path) quiet

@@ -55,12 +55,8 @@ sets_known asked k own text v u has keeps = subst (λ (known : BackSight). Knows
 
 -- a ring has at most 16 pages
 read_is : (k : FrontKey) (v : BackView) → v.terms.order ≤ 4 → IsPlaced (stage.ReadKey k) v → IsReadKey k
-read_is key.RingPageOrder v few placed = tt
 read_is (key.RingRefOf page) v few placed = let less : 2 ^ v.terms.order ≤ 2 ^ 4 = pow_mono few in let within = placed.2.1 in omega arith
-read_is key.RingRef v few placed = tt
-read_is key.EventChannel v few placed = tt
-read_is key.Protocol v few placed = tt
-read_is key.FeaturePersistent v few placed = tt
+read_is other v few placed = tt
 
 says_at : (asked : Bool) (k : BackSight) (s : BackBusStage) (v : BackView) (h : Hypervisor) (a : BackAct) → v.stage ≡ s → v.terms.order ≤ 4 → IsPlaced s v → Knows asked k v → back.speaks (ask_at s v) ≡ true
     → back_act h back_mover.Back (back.key_ask (ask_at s v)) Took ≡ Some a → SaysAt asked k s v a

@@ -41,17 +41,14 @@ use Rattle.vbd_back.specs.Ask as back
 use Rattle.vbd_back.specs.View.{offer}
 use Rattle.vbd_front.specs.View.{is_unoccupied, is_broken}
 use Rattle.vbd_model.specs.Fit.{IsEndingPage, FrontRests, IsGranting, FrontGoesWith, IsAborting, IsUnmapping, is_serving, BackRests, BackGoesWith, IsUnbound}
+use Rattle.negotiation_laws.proofs.Choices.{either}
 use Rattle.vbd_laws.proofs.FitFrontMoves.{connected_still}
 use Rattle.vbd_laws.proofs.FitFrontBus.{FrontFits, unoccupied, due_cases, closing_cases}
 use Rattle.vbd_laws.proofs.FitFrontSpoken.{whole_rests}
 
 pub front_may_set : (v : FrontView) (k : FrontKey) → may_set end.Front (path_under end.Front (front_name k)) (text_of (front_value (terms_of v) k)) ≡ true
 front_may_set v front_key.RingPageOrder = refl
-front_may_set v front_key.RingRef = refl
-front_may_set v (front_key.RingRefOf page) = refl
-front_may_set v front_key.EventChannel = refl
-front_may_set v front_key.Protocol = refl
-front_may_set v front_key.FeaturePersistent = refl
+front_may_set v other = refl
 
 -- a feature that isn't offered says 0
 nothing : is_zero_text (decimal 0) ≡ true
@@ -59,14 +56,7 @@ nothing = rw (decimal_digit 0 (omega arith)) refl
 
 pub back_may_set : (v : BackView) (k : BackKey) → v.features ≡ offer v.disk.read_only v.features.indirect → may_set end.Back (path_under end.Back (back_name k)) (text_of (back_value v.features v.disk k)) ≡ true
 back_may_set v back_key.FeaturePersistent offers = let none : v.features.persistent ≡ false = ap (λ (f : Features). f.persistent) offers in rw none nothing
-back_may_set v back_key.FeatureBarrier offers = refl
-back_may_set v back_key.FeatureFlushCache offers = refl
-back_may_set v back_key.FeatureDiscard offers = refl
-back_may_set v back_key.FeatureMaxIndirectSegments offers = refl
-back_may_set v back_key.MaxRingPageOrder offers = refl
-back_may_set v back_key.Sectors offers = refl
-back_may_set v back_key.SectorSize offers = refl
-back_may_set v back_key.Info offers = refl
+back_may_set v other offers = refl
 
 pub front_state_set : (text : List ℕ) → may_set end.Front front.own_state text ≡ true
 front_state_set text = refl
@@ -104,11 +94,7 @@ back_sets_at back_stage.UnmapPage v offers = unmap_sets v
 back_sets_at b v offers = tt
 
 pub back_sets : (v : BackView) → v.features ≡ offer v.disk.read_only v.features.indirect → BackMaySet (back_bus.ask_of v)
-back_sets v offers = by_test (back_bus.says_closing v)
-  where
-    by_test : (c : Bool) → BackMaySet (if c then back_ask.SetState state.Closing else back_bus.ask_at v.stage v)
-    by_test true = tt
-    by_test false = back_sets_at v.stage v offers
+back_sets v offers = either BackMaySet (back_bus.says_closing v) (back_ask.SetState state.Closing) (back_bus.ask_at v.stage v) tt (back_sets_at v.stage v offers)
 
 -- where neither the front's negotiation nor its end of the ring has the move, the ring isn't made
 granting : (page : ℕ) (r : FrontStage) → IsGranting page r → is_connected r ≡ false
@@ -207,12 +193,7 @@ led_at back_stage.ClosePort v r goes quiet still = absurd (true≢false (sym (ap
 led_at back_stage.Halted v r goes quiet still = absurd (true≢false (sym (ap (back.ring_moves back_ask.Wait) goes.1) ∙ still))
 led_at back_stage.MapPage v r goes quiet still = absurd (true≢false (sym (ap (back.ring_moves (back_bus.ask_at back_stage.MapPage v)) goes.1) ∙ still))
 led_at back_stage.Bind v r goes quiet still = absurd (true≢false (sym (ap (back.ring_moves (back_bus.ask_at back_stage.Bind v)) goes.1) ∙ still))
-led_at (back_stage.Publish key) v r goes quiet still = absurd (true≢false quiet)
-led_at (back_stage.WriteState own) v r goes quiet still = absurd (true≢false quiet)
-led_at back_stage.Watch v r goes quiet still = absurd (true≢false quiet)
-led_at back_stage.ReadState v r goes quiet still = absurd (true≢false quiet)
-led_at (back_stage.ReadKey key) v r goes quiet still = absurd (true≢false quiet)
-led_at (back_stage.PublishFact key) v r goes quiet still = absurd (true≢false quiet)
+led_at other v r goes quiet still = absurd (true≢false quiet)
 
 pub led_of : (v : BackView) (r : BackStage) → BackGoesWith v.stage v.state r → back.speaks (back_bus.ask_of v) ≡ false → back.ring_moves (back_bus.ask_of v) r ≡ false → is_led r ≡ true
 led_of v r goes = by_test (back_bus.says_closing v)

@@ -44,6 +44,7 @@ pub mod ServedHonest
 pub mod Served
 pub mod Quiet
 pub mod BreaksPlaced
+pub mod Recorded
 pub mod HaltsKeys
 pub mod HaltsKnown
 pub mod HaltsDue
@@ -90,5 +91,4 @@ pub mod BreaksStill
 pub mod BreaksMoves
 pub mod BreaksRun
 pub mod BreaksReport
-pub mod Recorded
 pub mod BreaksRefused

@@ -208,11 +208,7 @@ fact_late k value is = absurd is
 
 read_led : (k : FrontKey) (own : BusState) (r : BackStage) → BackGoesWith (bus_stage.ReadKey k) own r → is_early (back_key (back_bus.GetKey k)) ≡ true → is_led r ≡ true
 read_led key.Protocol own r goes early = ap is_led goes.1
-read_led key.RingPageOrder own r goes early = absurd (true≢false (sym early))
-read_led (key.RingRefOf page) own r goes early = absurd (true≢false (sym early))
-read_led key.RingRef own r goes early = absurd (true≢false (sym early))
-read_led key.EventChannel own r goes early = absurd (true≢false (sym early))
-read_led key.FeaturePersistent own r goes early = absurd (true≢false (sym early))
+read_led other own r goes early = absurd (true≢false (sym early))
 
 led_at : (b : BackBusStage) (v : BackView) (r : BackStage) → BackGoesWith b v.state r → is_early (back_key (ask_at b v)) ≡ true → is_led r ≡ true
 led_at (bus_stage.Publish k) v r goes early = ap is_led goes.1

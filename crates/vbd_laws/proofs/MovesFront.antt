@@ -120,9 +120,7 @@ due_lines due order r = refl
 
 stated_line : (offers : Offers) (n : FrontNews) → state_lines (front_step.state_of_news offers n) ≡ news_line n ∷ []
 stated_line offers news.Ready = refl
-stated_line offers news.Closing = refl
-stated_line offers news.Closed = refl
-stated_line offers (news.Broken word) = refl
+stated_line offers other = refl
 
 entered_lines : (offers : Offers) (news : Option FrontNews) (due : FrontBusAsk) (order : ℕ) (r : rings.World)
     → ring.lines_of (map ring.FrontEnters (front_step.states_entered offers news due order)) r ≡ news_lines (front_step.news_told offers news r.front)

@@ -25,10 +25,6 @@ use Rattle.vbd_laws.proofs.MovesTurns.{front_asks, back_asks, front_cases, back_
 
 front_key_may : (h : Hypervisor) (a : FrontBusAsk) → FrontMay h (front.key_ask a)
 front_key_may h front_bus.Watch = tt
-front_key_may h front_bus.GetState = tt
-front_key_may h (front_bus.GetKey key) = tt
-front_key_may h (front_bus.SetState s) = tt
-front_key_may h (front_bus.SetKey key value) = tt
 front_key_may h a = tt
 
 abbrev FrontMays : World → List ring.Happening → FrontAsk → (FrontAnswer → front_view.View) → Type 0
@@ -40,10 +36,6 @@ front_asks_may w fit =
 
 back_key_may : (h : Hypervisor) (attached : Option ℕ) (a : BackBusAsk) → BackMay h attached (back.key_ask a)
 back_key_may h attached back_bus.Watch = tt
-back_key_may h attached back_bus.GetState = tt
-back_key_may h attached (back_bus.GetKey key) = tt
-back_key_may h attached (back_bus.SetState s) = tt
-back_key_may h attached (back_bus.SetKey key value) = tt
 back_key_may h attached a = tt
 
 abbrev BackMays : World → List ring.Happening → BackAsk → (BackAnswer → back_view.View) → Type 0

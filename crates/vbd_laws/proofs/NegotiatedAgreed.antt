@@ -95,8 +95,4 @@ keeps_order s f same = enters_cases (λ (x : ends.View) shown. x.shape.order ≡
   where
     by_state : (s : FrontState) → IsSame s f.shape.order → (in_state s f).shape.order ≡ f.shape.order
     by_state (enter.Agreed order) same = same
-    by_state (enter.Connected offers) same = refl
-    by_state enter.Closing same = refl
-    by_state enter.Leaving same = refl
-    by_state enter.Closed same = refl
-    by_state (enter.Broken word) same = refl
+    by_state other same = refl

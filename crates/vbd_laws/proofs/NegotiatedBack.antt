@@ -46,6 +46,7 @@ use Rattle.vbd_back.specs.Step.{settled_at, settled, bus_halted, woken, followed
 use Rattle.vbd_model.specs.World.{World, backend_of}
 use Rattle.vbd_model.specs.Happening.{back_turn, is_backs_ring}
 use Rattle.vbd_model.specs.Fit.{IsAborting, IsUnmapping, BackGoesWith, BackHolds, IsFit}
+use Rattle.negotiation_laws.proofs.Choices.{either}
 use Rattle.vbd_laws.proofs.NegotiatedRun.{negotiation_of, Reached, Joined, reached_one}
 
 -- the negotiation with this back, over these keys
@@ -161,8 +162,7 @@ module _ (P : Negotiation → Type 0) (keeps : (n : Negotiation) (page : Mapping
 
   bind_follows : (p own : ℕ) (s : PortState) → ask_of n.back ≡ bus_ask.Bind p → Follows (bus_ask.Bind p) (bind_act h own s)
   bind_follows p own port.Unbound asks given = told_done (bus_ask.Bind p) a_page answer.Done asks refl refl
-  bind_follows p own port.Closed asks given = absurd given
-  bind_follows p own port.Bound asks given = absurd given
+  bind_follows p own other asks given = absurd given
 
   leaves_follows : (a : BackAct) → Leaves h a → P (with_back n n.back a.under.keys)
   leaves_follows a leaves = still_holds P keeps n h a.under.keys kept leaves.keys j
@@ -232,11 +232,7 @@ step_halting (stage.PublishFact k) v x here is = absurd (true≢false (sym is))
 step_halting s v x here is = rw here is
 
 told_halting : (v : BackView) (x : BackAnswer) → is_halting v.stage ≡ true → is_halting (step_of v x).stage ≡ true
-told_halting v x is = by_test (says_closing v)
-  where
-    by_test : (b : Bool) → is_halting (if b then record v { state = state.Closing } else step_at v.stage v x).stage ≡ true
-    by_test true = is
-    by_test false = step_halting v.stage v x refl is
+told_halting v x is = either (λ (u : BackView). is_halting u.stage ≡ true) (says_closing v) (record v { state = state.Closing }) (step_at v.stage v x) is (step_halting v.stage v x refl is)
 
 woken_halting : (v : BackView) (x : BackAnswer) → is_halting v.stage ≡ true → is_halting (woken v x).stage ≡ true
 woken_halting v (answer.Watched path) is = told_halting v (answer.Watched path) is
@@ -296,8 +292,6 @@ unmap_stuck (m ∷ pages) r is still = moves_stuck (bus_ask.Unmap m) r (unmappin
 stuck_at : (s : BackBusStage) (v : BackView) (r : BackStage) → BackGoesWith s v.state r → bus_moves (ask_at s v) r ≡ false → ring_moves (ask_at s v) r ≡ false → IsStuck (ask_at s v) r
 stuck_at (stage.Publish k) v r fits quiet still = says_stuck (ask_at (stage.Publish k) v) r refl quiet still
 stuck_at (stage.WriteState own) v r fits quiet still = says_stuck (ask_at (stage.WriteState own) v) r refl quiet still
-stuck_at stage.Watch v r fits quiet still = says_stuck (ask_at stage.Watch v) r refl quiet still
-stuck_at stage.ReadState v r fits quiet still = says_stuck (ask_at stage.ReadState v) r refl quiet still
 stuck_at (stage.ReadKey k) v r fits quiet still = says_stuck (ask_at (stage.ReadKey k) v) r refl quiet still
 stuck_at (stage.PublishFact k) v r fits quiet still = says_stuck (ask_at (stage.PublishFact k) v) r refl quiet still
 stuck_at stage.Rest v r fits quiet still = refl
@@ -307,6 +301,7 @@ stuck_at stage.Bind v r fits quiet still = moves_stuck (ask_at stage.Bind v) r (
 stuck_at stage.UnmapOthers v r fits quiet still = moves_stuck bus_ask.UnmapOthers r (giving_moves r fits) still
 stuck_at stage.UnmapPage v r fits quiet still = unmap_stuck v.pages r fits still
 stuck_at stage.ClosePort v r fits quiet still = moves_stuck bus_ask.ClosePort r (rw fits refl) still
+stuck_at other v r fits quiet still = says_stuck (ask_at other v) r refl quiet still
 
 stuck_of : (v : BackView) (r : BackStage) → BackGoesWith v.stage v.state r → bus_moves (ask_of v) r ≡ false → ring_moves (ask_of v) r ≡ false → IsStuck (ask_of v) r
 stuck_of v r fits = by_test (says_closing v)

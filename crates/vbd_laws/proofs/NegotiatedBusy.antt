@@ -100,11 +100,7 @@ occupied r some = occupied_by r.requests r.stage some
 -- a move of it adds none
 entered_requests : (s : FrontState) (r : ring.View) → (in_state s r).requests ≡ r.requests
 entered_requests (entered.Agreed order) r = refl
-entered_requests (entered.Connected offers) r = refl
-entered_requests entered.Closing r = refl
-entered_requests entered.Leaving r = refl
-entered_requests entered.Closed r = refl
-entered_requests (entered.Broken word) r = refl
+entered_requests other r = refl
 
 enters_requests : (s : FrontState) (r : ring.View) → (enters s r).requests ≡ r.requests
 enters_requests s r = enters_cases (λ (x : ring.View) shown. x.requests ≡ r.requests) s r (λ may. entered_requests s r) refl

@@ -27,7 +27,7 @@ use Rattle.xenbus_state.specs.declared.stage.BackBusStage.{BackBusStage}
 use Rattle.xenbus_state.specs.declared.stage.BackBusStage.TheVariants as bus
 use Rattle.xenbus_state.specs.declared.keys.FrontKey.TheVariants as key
 use Rattle.xenbus_state.specs.Tables.{is_connected as bus_connected}
-use Rattle.xenbus_state.specs.BackView.{BackView, is_halting, unplugged}
+use Rattle.xenbus_state.specs.BackView.{BackView, unplugged}
 use Rattle.event_channel.specs.Channels.{ChannelState, with_port, fresh_channels}
 use Rattle.split_model.specs.Safe.{IsPorted}
 use Rattle.split_model.proofs.SafeFront.{IsUnported, step_fits, entered_kept}
@@ -39,6 +39,7 @@ use Rattle.vbd_front.specs.Step as front_step
 use Rattle.vbd_model.specs.World.{World, frontend_of}
 use Rattle.vbd_model.specs.Happening.{FrontMoves, Closes, front_turn, happens}
 use Rattle.vbd_model.specs.Fit.{BackGoesWith, BackRests, BackReads, IsAborting, IsUnmapping, is_serving, IsFit}
+use Rattle.negotiation_laws.proofs.Choices.{either, unplugged_cases}
 use Rattle.vbd_laws.specs.Moves.{IsNoMove, IsFrontMove}
 use Rattle.vbd_laws.proofs.FitBackRing.{is_past}
 use Rattle.vbd_laws.proofs.MovesTurns.{front_cases}
@@ -163,16 +164,11 @@ enter_early w fits unbound (s ∷ states) r timely early =
     (enters_cases (λ (v : front_ends.View) (shown : List Line). is_early v.stage ≡ true) s r (λ may. by_state s timely.0) early)
   where
     by_state : (s : FrontState) → IsTimely w s → is_early (in_state s r).stage ≡ true
-    by_state (entered.Agreed order) now = early
     by_state (entered.Connected offers) now = absurd (unconnected w.back.stage w.back.state w.rings.back.stage unbound fits now.0)
-    by_state entered.Closing now = early
     by_state entered.Leaving now = absurd (not_halted w.back w.rings.back.stage unbound fits now)
     by_state entered.Closed now = refl
     by_state (entered.Broken word) now = absurd now
-
-either_early : (b : Bool) (s t : FrontStage) → is_early s ≡ true → is_early t ≡ true → is_early (if b then s else t) ≡ true
-either_early true s t p q = p
-either_early false s t p q = q
+    by_state other now = early
 
 left_early : (ending : Option Ending) (n word : ℕ) (r : front_ends.View) → r.stage ≡ front_ring.LeftData n → is_early (front_ring_step.left_step ending n word r).stage ≡ true
 left_early None n word r here = ap is_early here
@@ -186,10 +182,10 @@ left_early (Some e) n word r here = by_more (nat_lt (n + 1) (words_in e.request)
     by_more false = refl
 
 step_early : (s : FrontStage) (r : front_ends.View) (x : FrontAnswer) → r.stage ≡ s → is_early s ≡ true → is_early (front_ring_step.step_at s r x).stage ≡ true
-step_early (front_ring.RingWord k) r x here early = either_early (k == 15) (front_ring.RingFrame 0) (front_ring.RingWord (k + 1)) refl refl
+step_early (front_ring.RingWord k) r x here early = either (λ (one : FrontStage). is_early one ≡ true) (k == 15) (front_ring.RingFrame 0) (front_ring.RingWord (k + 1)) refl refl
 step_early (front_ring.RingFrame page) r x here early = refl
 step_early (front_ring.RingFence page) r x here early = refl
-step_early (front_ring.RingFlags page) r x here early = either_early (nat_lt (page + 1) (2 ^ r.shape.order)) (front_ring.RingFrame (page + 1)) front_ring.NewPort refl refl
+step_early (front_ring.RingFlags page) r x here early = either (λ (one : FrontStage). is_early one ≡ true) (nat_lt (page + 1) (2 ^ r.shape.order)) (front_ring.RingFrame (page + 1)) front_ring.NewPort refl refl
 step_early front_ring.NewPort r x here early = refl
 step_early (front_ring.LeftData n) r (front_answer.Word word) here early = left_early r.ending n word r here
 step_early (front_ring.LeftData n) r x here early = ap is_early here
@@ -266,11 +262,7 @@ front_way w fit hand way = by_act (front_turn w) refl
 
 -- an end is asked to close
 unplugged_same : (v : BackView) → (unplugged v).stage ≡ v.stage
-unplugged_same v = by_test (is_halting v.stage)
-  where
-    by_test : (b : Bool) → (let u : BackView = if b then v else record v { unplugged = true } in u.stage ≡ v.stage)
-    by_test true = refl
-    by_test false = refl
+unplugged_same v = unplugged_cases (λ (u : BackView). u.stage ≡ v.stage) v refl refl
 
 pub close_way : (w : World) (at : End) → IsOnItsWay w → IsOnItsWay (happens w (Closes at))
 close_way w end.Front (inl b) =

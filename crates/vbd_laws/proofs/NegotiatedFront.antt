@@ -46,6 +46,7 @@ use Rattle.vbd_model.specs.World.{World, frontend_of}
 use Rattle.event_channel.specs.Channels.{ChannelState}
 use Rattle.split_model.specs.Safe.{IsPorted}
 use Rattle.negotiation_laws.specs.Happening.{FrontMoves}
+use Rattle.negotiation_laws.proofs.Choices.{either}
 use Rattle.vbd_laws.proofs.NegotiatedRun.{negotiation_of, Reached, Joined, reached_one, reached_as}
 use Rattle.vbd_model.specs.Fit.{IsEndingPage, FrontRests, IsGranting, FrontGoesWith, IsFit}
 use Rattle.split_model.proofs.SafeActs.{of_front}
@@ -127,20 +128,10 @@ quiet_act h asked a own e = (elim (front_acts h asked a e) as (λ wish x acts. A
 ]) own
 
 -- a front that takes a watch in its ring breaks nothing
-either_whole : (b : Bool) (s t : FrontStage) → is_broken s ≡ false → is_broken t ≡ false → is_broken (if b then s else t) ≡ false
-either_whole true s t p q = p
-either_whole false s t p q = q
-
-either_view : (b : Bool) (x y : ring.View) → is_broken x.stage ≡ false → is_broken y.stage ≡ false → is_broken (if b then x else y).stage ≡ false
-either_view true x y p q = p
-either_view false x y p q = q
 
 begun_whole : (r : ring.View) (q : Request) (way : Transfer) → is_broken (ring_step.begun r q way).stage ≡ false
-begun_whole r q transfer.Read = either_whole (is_indirect q.count) (ring_stage.Pages 1) (ring_stage.GrantFence 0) refl refl
-begun_whole r q (transfer.Write tag) = refl
-begun_whole r q (transfer.Barrier tag) = refl
-begun_whole r q transfer.Flush = refl
-begun_whole r q (transfer.Discard sectors) = refl
+begun_whole r q transfer.Read = either (λ (one : FrontStage). is_broken one ≡ false) (is_indirect q.count) (ring_stage.Pages 1) (ring_stage.GrantFence 0) refl refl
+begun_whole r q other = refl
 
 loop_whole : (r : ring.View) (next : Option Request) (path : List ℕ) → is_broken r.stage ≡ false → is_broken (ring_step.loop_step r next (answer.Watched path)).stage ≡ false
 loop_whole r None path p = p
@@ -149,21 +140,21 @@ loop_whole r (Some q) path p = begun_whole r q q.transfer
 data_whole : (next : Option Request) (n : ℕ) → is_broken (ring_step.data_stage next n) ≡ false
 data_whole None n = refl
 data_whole (Some q) n =
-    either_whole (nat_lt (n + 1) (words_in q)) (ring_stage.Data (n + 1)) (ring_step.after_data q) refl (either_whole (is_indirect q.count) (ring_stage.Pages 0) (ring_stage.GrantFrame 0) refl refl)
+    either (λ (one : FrontStage). is_broken one ≡ false) (nat_lt (n + 1) (words_in q)) (ring_stage.Data (n + 1)) (ring_step.after_data q) refl (either (λ (one : FrontStage). is_broken one ≡ false) (is_indirect q.count) (ring_stage.Pages 0) (ring_stage.GrantFrame 0) refl refl)
 
 page_whole : (next : Option Request) (n : ℕ) → is_broken (ring_step.page_stage next n) ≡ false
 page_whole None n = refl
-page_whole (Some q) n = either_whole (nat_lt (n + 1) (naming_words q)) (ring_stage.Pages (n + 1)) (ring_stage.GrantFrame 0) refl refl
+page_whole (Some q) n = either (λ (one : FrontStage). is_broken one ≡ false) (nat_lt (n + 1) (naming_words q)) (ring_stage.Pages (n + 1)) (ring_stage.GrantFrame 0) refl refl
 
 granted_whole : (r : ring.View) (next : Option Request) (place : ℕ) → is_broken r.stage ≡ false → is_broken (ring_step.granted next place r).stage ≡ false
 granted_whole r None place p = p
-granted_whole r (Some q) place p = either_view (nat_lt (place + 1) (length q.frames.items)) _ _ refl refl
+granted_whole r (Some q) place p = either (λ (one : ring.View). is_broken one.stage ≡ false) (nat_lt (place + 1) (length q.frames.items)) _ _ refl refl
 
 watched_whole : (s : FrontStage) (r : ring.View) (path : List ℕ) → r.stage ≡ s → is_broken s ≡ false → is_broken (ring_step.step_at s r (answer.Watched path)).stage ≡ false
-watched_whole (ring_stage.RingWord k) r path here p = either_whole (k == 15) (ring_stage.RingFrame 0) (ring_stage.RingWord (k + 1)) refl refl
+watched_whole (ring_stage.RingWord k) r path here p = either (λ (one : FrontStage). is_broken one ≡ false) (k == 15) (ring_stage.RingFrame 0) (ring_stage.RingWord (k + 1)) refl refl
 watched_whole (ring_stage.RingFrame page) r path here p = refl
 watched_whole (ring_stage.RingFence page) r path here p = refl
-watched_whole (ring_stage.RingFlags page) r path here p = either_whole (nat_lt (page + 1) (2 ^ r.shape.order)) (ring_stage.RingFrame (page + 1)) ring_stage.NewPort refl refl
+watched_whole (ring_stage.RingFlags page) r path here p = either (λ (one : FrontStage). is_broken one ≡ false) (nat_lt (page + 1) (2 ^ r.shape.order)) (ring_stage.RingFrame (page + 1)) ring_stage.NewPort refl refl
 watched_whole ring_stage.NewPort r path here p = refl
 watched_whole ring_stage.Loop r path here p = loop_whole r (ring.next_request r) path (rw here refl)
 watched_whole (ring_stage.Data n) r path here p = data_whole (ring.next_request r) n
@@ -171,7 +162,7 @@ watched_whole (ring_stage.Pages n) r path here p = page_whole (ring.next_request
 watched_whole (ring_stage.GrantFrame place) r path here p = refl
 watched_whole (ring_stage.GrantFence place) r path here p = refl
 watched_whole (ring_stage.GrantFlags place) r path here p = granted_whole r (ring.next_request r) place (rw here refl)
-watched_whole (ring_stage.Slot k) r path here p = either_whole (k + 1 == entry_words_of r.shape.abi) ring_stage.Producer (ring_stage.Slot (k + 1)) refl refl
+watched_whole (ring_stage.Slot k) r path here p = either (λ (one : FrontStage). is_broken one ≡ false) (k + 1 == entry_words_of r.shape.abi) ring_stage.Producer (ring_stage.Slot (k + 1)) refl refl
 watched_whole ring_stage.Producer r path here p = refl
 watched_whole (ring_stage.ProducerFence old) r path here p = refl
 watched_whole ring_stage.Send r path here p = refl
@@ -406,12 +397,7 @@ Keeps s v u = (u.state ≡ v.state) ⊎ ((own : BusState) × (s ≡ stage.WriteS
 
 acted_keeps : (s : FrontBusStage) (act : FrontAction) (v : FrontView) → Keeps s v (acted act v)
 acted_keeps s action.Nothing v = inl refl
-acted_keeps s action.Publish v = inl refl
-acted_keeps s action.Connect v = inl refl
-acted_keeps s action.Close v = inl refl
-acted_keeps s action.CloseAndConnect v = inl refl
-acted_keeps s action.Leave v = inl refl
-acted_keeps s (action.Break word) v = inl refl
+acted_keeps s other v = inl refl
 
 feature_keeps : (s : FrontBusStage) (k : BackKey) (n : Option ℕ) (v : FrontView) → Keeps s v (feature_step k n v)
 feature_keeps s k None v = inl refl

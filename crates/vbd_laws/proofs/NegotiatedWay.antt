@@ -72,12 +72,7 @@ use Rattle.vbd_laws.proofs.NegotiatedEarly.{Before, Bound, Halted, Past, After, 
 -- a halt for what the negotiation read
 halt_may : (why : BackHalt) → ring_step.may_halt (back_step.ring_halt why) ≡ true
 halt_may (bus_halt.Gone s) = refl
-halt_may (bus_halt.Unplugged s) = refl
-halt_may bus_halt.BadState = refl
-halt_may (bus_halt.BadKey key) = refl
-halt_may (bus_halt.BadOrder s) = refl
-halt_may (bus_halt.BadPort p) = refl
-halt_may (bus_halt.MapRefused gref status) = refl
+halt_may other = refl
 
 -- it halts before the ring is mapped: nothing is left to unmap
 halts_early : (why : BackHalt) (r : ring_view.View) → is_unbound r.stage ≡ true → r.pages ≡ [] → (let u : ring_view.View = ring_step.halts (back_step.ring_halt why) r in (u.stage ≡ ring.Halted) × (is_some u.halted ≡ true))
@@ -349,7 +344,6 @@ back_way w fit way = by_act (back_turn w) refl
 -- after a suspend the front makes its ring anew, or the new back has halted
 early_anew : (s : FrontStage) → is_early (stage_after s) ≡ true
 early_anew (front_ring.ReadData n) = refl
-early_anew (front_ring.LeftData n) = refl
 early_anew s = refl
 
 -- and the negotiation begins anew

@@ -21,6 +21,7 @@ use Rattle.xenbus_state.specs.declared.stage.BackBusStage.{BackBusStage}
 use Rattle.xenbus_state.specs.declared.stage.BackBusStage.TheVariants as bus
 use Rattle.xenbus_state.specs.declared.table.BackAction.{BackAction}
 use Rattle.xenbus_state.specs.declared.table.BackAction.TheVariants as action
+use Rattle.xenbus_state.specs.declared.back.BackBusAsk.{BackBusAsk}
 use Rattle.xenbus_state.specs.declared.back.BackBusAsk.TheVariants as back_ask
 use Rattle.xenbus_state.specs.declared.table.BackHalt.{BackHalt}
 use Rattle.xenbus_state.specs.declared.table.BackHalt.TheVariants as bus_halt
@@ -43,6 +44,7 @@ use Rattle.vbd_back.specs.Ask as back
 use Rattle.vbd_back.specs.Step as back_step
 use Rattle.vbd_model.specs.World.{World, backend_of}
 use Rattle.vbd_model.specs.Happening.{back_key as key_move, back_turn, back_bus_after, renewed_bus}
+use Rattle.negotiation_laws.proofs.Choices.{either, unplugged_cases}
 use Rattle.vbd_laws.proofs.FitBackKept.{step_is}
 use Rattle.vbd_laws.proofs.NegotiatedBack.{IsGiven}
 use Rattle.vbd_laws.proofs.ServedTexts.{few_states, page_name, state_name, ring_name, order_name, port_name, layout_name, persistent_name, number_text, page_path, front_state_path, back_state_path, back_path, ring_path, order_path, port_path, layout_path, persistent_path, flag_text, state_text}
@@ -72,18 +74,12 @@ fact_plain (Some k) = tt
 
 state_plain : (s : BusState) → IsPlain (after_state s)
 state_plain state.InitWait = tt
-state_plain state.Closing = tt
-state_plain state.Closed = tt
 state_plain s = tt
 
 up_plain : (pages : List Mapping) (bound : Bool) (own : BusState) → IsPlain (unmapping_next pages bound own)
 up_plain (page ∷ pages) bound own = tt
 up_plain [] true own = tt
 up_plain [] false own = tt
-
-either_plain : (b : Bool) (s t : BackBusStage) → IsPlain s → IsPlain t → IsPlain (if b then s else t)
-either_plain true s t p q = p
-either_plain false s t p q = q
 
 acted_speaks : (act : BackAction) (v : BackView) → Speaks v → Speaks (acted act v)
 acted_speaks action.Nothing v h = at_speaks bus.Rest v tt h
@@ -166,12 +162,11 @@ key_speaks key.RingPageOrder (Some text) v h = order_speaks (number_of text) v h
 key_speaks (key.RingRefOf page) None v h = only_speaks (v.terms.order == 0) v h
 key_speaks (key.RingRefOf page) (Some text) v h =
     number_speaks (with_gref v (after_page v.terms.order page)) text v (λ gref low. record { sectors = h.sectors; order = h.order; grefs = with_gref_small gref v.grefs low h.grefs; port = h.port; stage = page_plain v.terms.order page h.order }) h
-key_speaks key.RingRef None v h = at_speaks bus.UnmapOthers v tt h
 key_speaks key.RingRef (Some text) v h = number_speaks (with_gref v key.EventChannel) text v (λ gref low. record { sectors = h.sectors; order = h.order; grefs = with_gref_small gref v.grefs low h.grefs; port = h.port; stage = tt }) h
-key_speaks key.EventChannel None v h = at_speaks bus.UnmapOthers v tt h
 key_speaks key.EventChannel (Some text) v h = number_speaks (with_port v) text v (λ port low. record { sectors = h.sectors; order = h.order; grefs = h.grefs; port = low; stage = tt }) h
 key_speaks key.Protocol text v h = kept_speaks (with_layout v) (layout_read text) v (λ abi. record { sectors = h.sectors; order = h.order; grefs = h.grefs; port = h.port; stage = tt }) h
 key_speaks key.FeaturePersistent text v h = kept_speaks (with_persistent v) (count_read text) v (λ n. record { sectors = h.sectors; order = h.order; grefs = h.grefs; port = h.port; stage = tt }) h
+key_speaks other None v h = at_speaks bus.UnmapOthers v tt h
 
 step_speaks : (s : BackBusStage) (v : BackView) (a : BackAnswer) → Speaks v → Speaks (step_at s v a)
 step_speaks (bus.Publish k) v answer.Done h = at_speaks (after_feature (next_feature k)) v (feature_plain (next_feature k)) h
@@ -181,7 +176,7 @@ step_speaks bus.Rest v (answer.Watched path) h = at_speaks bus.ReadState v tt h
 step_speaks bus.ReadState v (answer.Key text) h = acted_speaks (back_action v.state v.unplugged (state_read text)) v h
 step_speaks (bus.ReadKey k) v (answer.Key text) h = key_speaks k text v h
 step_speaks bus.MapPage v (answer.Mapped page) h =
-    record { sectors = h.sectors; order = h.order; grefs = h.grefs; port = h.port; stage = either_plain (nat_lt (length v.pages + 1) (length v.grefs)) bus.MapPage bus.Bind tt tt }
+    record { sectors = h.sectors; order = h.order; grefs = h.grefs; port = h.port; stage = either IsPlain (nat_lt (length v.pages + 1) (length v.grefs)) bus.MapPage bus.Bind tt tt }
 step_speaks bus.MapPage v (answer.MapRefused status) h = at_speaks bus.UnmapOthers v tt h
 step_speaks bus.Bind v answer.Done h = record { sectors = h.sectors; order = h.order; grefs = h.grefs; port = h.port; stage = tt }
 step_speaks bus.Bind v answer.BindRefused h = at_speaks bus.UnmapOthers v tt h
@@ -192,18 +187,10 @@ step_speaks bus.ClosePort v answer.Done h = record { sectors = h.sectors; order 
 step_speaks s v a h = h
 
 told_speaks : (v : BackView) (a : BackAnswer) → Speaks v → Speaks (step_of v a)
-told_speaks v a h = by_test (says_closing v)
-  where
-    by_test : (b : Bool) → Speaks (if b then record v { state = state.Closing } else step_at v.stage v a)
-    by_test true = record { sectors = h.sectors; order = h.order; grefs = h.grefs; port = h.port; stage = h.stage }
-    by_test false = step_speaks v.stage v a h
+told_speaks v a h = either Speaks (says_closing v) (record v { state = state.Closing }) (step_at v.stage v a) (record { sectors = h.sectors; order = h.order; grefs = h.grefs; port = h.port; stage = h.stage }) (step_speaks v.stage v a h)
 
 stopped_speaks : (v : BackView) → Speaks v → Speaks (stopped v)
-stopped_speaks v h = by_test (is_halting v.stage)
-  where
-    by_test : (b : Bool) → Speaks (if b then v else halted v)
-    by_test true = h
-    by_test false = at_speaks bus.UnmapOthers v tt h
+stopped_speaks v h = either Speaks (is_halting v.stage) v (halted v) h (at_speaks bus.UnmapOthers v tt h)
 
 -- a move of the back
 pub back_speaks : (w : World) → Speaks w.back → Speaks (back_bus_after w (back_turn w))
@@ -224,11 +211,7 @@ terms_said v h = (all_at v.grefs h.grefs, h.port)
 
 -- a close of it
 pub unplugged_speaks : (v : BackView) → Speaks v → Speaks (unplugged v)
-unplugged_speaks v h = by_test (is_halting v.stage)
-  where
-    by_test : (b : Bool) → Speaks (if b then v else record v { unplugged = true })
-    by_test true = h
-    by_test false = record { sectors = h.sectors; order = h.order; grefs = h.grefs; port = h.port; stage = h.stage }
+unplugged_speaks v h = unplugged_cases Speaks v h (record { sectors = h.sectors; order = h.order; grefs = h.grefs; port = h.port; stage = h.stage })
 
 -- a new back
 pub renewed_speaks : (opened : Bool) (v : BackView) → Speaks v → Speaks (renewed_bus opened v)
@@ -244,15 +227,13 @@ value_spelled : (k : BackKey) (f : Features) (d : DiskFacts) → f ≡ offer d.r
 value_spelled k f d e most few = subst (λ (g : Features). IsSpelled (key_move (back_ask.SetKey k (back_value g d k)))) (sym e) (by_key k)
   where
     by_key : (k : BackKey) → IsSpelled (key_move (back_ask.SetKey k (back_value (offer d.read_only f.indirect) d k)))
-    by_key back_key.FeatureBarrier = (back_path back_key.FeatureBarrier, flag_text (not d.read_only))
-    by_key back_key.FeatureFlushCache = (back_path back_key.FeatureFlushCache, flag_text (not d.read_only))
-    by_key back_key.FeatureDiscard = (back_path back_key.FeatureDiscard, flag_text (not d.read_only))
     by_key back_key.FeaturePersistent = (back_path back_key.FeaturePersistent, flag_text false)
     by_key back_key.FeatureMaxIndirectSegments = (back_path back_key.FeatureMaxIndirectSegments, number_text f.indirect (omega arith))
     by_key back_key.MaxRingPageOrder = (back_path back_key.MaxRingPageOrder, number_text 4 (omega arith))
     by_key back_key.Sectors = (back_path back_key.Sectors, number_text d.sectors few)
     by_key back_key.SectorSize = (back_path back_key.SectorSize, number_text 512 (omega arith))
     by_key back_key.Info = (back_path back_key.Info, number_text (if d.read_only then 4 else 0) (info_text d.read_only))
+    by_key other = (back_path other, flag_text (not d.read_only))
 
 read_spelled : (k : FrontKey) → IsPlain (bus.ReadKey k) → IsSpelled (key_move (back_ask.GetKey k))
 read_spelled key.RingPageOrder p = order_path
@@ -277,11 +258,7 @@ at_spelled bus.UnmapPage v e most few p = unmap_spelled v.pages
 at_spelled s v e most few p = tt
 
 asked_spelled : (v : BackView) → v.features ≡ offer v.disk.read_only v.features.indirect → v.features.indirect ≤ 960 → Speaks v → IsSpelled (key_move (ask_of v))
-asked_spelled v e most h = by_test (says_closing v)
-  where
-    by_test : (b : Bool) → IsSpelled (key_move (if b then back_ask.SetState state.Closing else ask_at v.stage v))
-    by_test true = (back_state_path, state_text state.Closing)
-    by_test false = at_spelled v.stage v e most h.sectors h.stage
+asked_spelled v e most h = either (λ (b : BackBusAsk). IsSpelled (key_move b)) (says_closing v) (back_ask.SetState state.Closing) (ask_at v.stage v) (back_state_path, state_text state.Closing) (at_spelled v.stage v e most h.sectors h.stage)
 
 pub back_spelled : (w : World) → w.back.features ≡ offer w.back.disk.read_only w.back.features.indirect → w.back.features.indirect ≤ 960 → Speaks w.back → IsSpelled (key_move (back.bus_ask_of (backend_of w)))
 back_spelled w e most h = asked_spelled w.back e most h
@@ -302,16 +279,12 @@ gone_read : (unplugged : Bool) (s : BusState) → IsRead (action_halt (front_gon
 gone_read true s = tt
 gone_read false s = tt
 
-either_read : (b : Bool) (x y : BackAction) → IsRead (action_halt x) → IsRead (action_halt y) → IsRead (action_halt (if b then x else y))
-either_read true x y p q = p
-either_read false x y p q = q
-
 action_read : (own : BusState) (unplugged : Bool) (read : Option BusState) → IsRead (action_halt (back_action own unplugged read))
 action_read own unplugged None = tt
-action_read own unplugged (Some state.Initialising) = either_read (is_connected own) (bad_order state.Initialising) action.Nothing tt tt
+action_read own unplugged (Some state.Initialising) = either (λ (one : BackAction). IsRead (action_halt one)) (is_connected own) (bad_order state.Initialising) action.Nothing tt tt
 action_read own unplugged (Some state.InitWait) = tt
-action_read own unplugged (Some state.Initialised) = either_read (is_connected own) action.Nothing action.Connect tt tt
-action_read own unplugged (Some state.Connected) = either_read (is_connected own) action.Nothing action.Connect tt tt
+action_read own unplugged (Some state.Initialised) = either (λ (one : BackAction). IsRead (action_halt one)) (is_connected own) action.Nothing action.Connect tt tt
+action_read own unplugged (Some state.Connected) = either (λ (one : BackAction). IsRead (action_halt one)) (is_connected own) action.Nothing action.Connect tt tt
 action_read own unplugged (Some state.Closing) = gone_read unplugged state.Closing
 action_read own unplugged (Some state.Closed) = gone_read unplugged state.Closed
 action_read own unplugged (Some state.Unknown) = gone_read unplugged state.Unknown
@@ -319,12 +292,8 @@ action_read own unplugged (Some state.Reconfiguring) = tt
 action_read own unplugged (Some state.Reconfigured) = tt
 
 plain_read : (k : FrontKey) → IsPlain (bus.ReadKey k) → IsReadKey k
-plain_read key.RingPageOrder p = tt
-plain_read key.RingRef p = tt
 plain_read (key.RingRefOf page) p = p
-plain_read key.EventChannel p = tt
-plain_read key.Protocol p = tt
-plain_read key.FeaturePersistent p = tt
+plain_read other p = tt
 
 key_read_halt : (k : FrontKey) (o : Option BackView) → IsPlain (bus.ReadKey k) → IsRead (key_halt k o)
 key_read_halt k None p = plain_read k p
@@ -338,11 +307,7 @@ halt_at_read bus.Bind v answer.BindRefused given p = absurd given
 halt_at_read s v a given p = tt
 
 pub halt_read : (v : BackView) (a : BackAnswer) → IsGiven a → Speaks v → IsRead (halt_of v a)
-halt_read v a given h = by_test (says_closing v)
-  where
-    by_test : (b : Bool) → IsRead (if b then None else halt_at v.stage v a)
-    by_test true = tt
-    by_test false = halt_at_read v.stage v a given h.stage
+halt_read v a given h = either IsRead (says_closing v) None (halt_at v.stage v a) tt (halt_at_read v.stage v a given h.stage)
 
 state_word : (s : BusState) → state_number s < 2 ^ 32
 state_word s = let few = few_states s in omega arith
@@ -361,5 +326,4 @@ halt_said (bus_halt.Unplugged s) read = record { widths = state_word s; allowed 
 halt_said bus_halt.BadState read = record { widths = tt; allowed = state_name }
 halt_said (bus_halt.BadKey k) read = record { widths = tt; allowed = key_said k read }
 halt_said (bus_halt.BadOrder s) read = record { widths = state_word s; allowed = refl }
-halt_said (bus_halt.BadPort port) read = absurd read
-halt_said (bus_halt.MapRefused gref status) read = absurd read
+halt_said other read = absurd read

@@ -1,5 +1,5 @@
 -- What the front's negotiation says is of the grammar: its port is a number, and its ring has at most 16 pages.
-use Rattle.std.proofs.Common.{◌≡◌, refl, ℕ, ◌+◌, ◌^◌, ◌<◌, ◌≤◌, ◌==◌, ◌&&◌, ◌||◌, Bool, true, false, List, arith, if◌then◌else◌}
+use Rattle.std.proofs.Common.{◌≡◌, refl, ℕ, ◌+◌, ◌^◌, ◌<◌, ◌≤◌, ◌==◌, ◌&&◌, Bool, true, false, List, arith, if◌then◌else◌}
 use Rattle.std.specs.Prelude.{Option, Some, None, nat_lt, unwrap_or}
 use Rattle.std.proofs.Math.Nat.{pow-le-pow_right}
 use Rattle.std.proofs.lemmas.Bool.Decides.{nat_tests}
@@ -28,7 +28,7 @@ use Rattle.xenbus_state.specs.States.{state_read}
 use Rattle.xenbus_state.specs.Tables.{front_action, on_offer, on_connected, on_closing, on_gone}
 use Rattle.xenbus_state.specs.Programs.{next_feature, next_fact, first_published, after_page, next_published}
 use Rattle.xenbus_state.specs.Reading.{count_read, fact_read}
-use Rattle.xenbus_state.specs.FrontView.{FrontView, ring_order, pages_of, is_broken, closed, suspended_at, suspended}
+use Rattle.xenbus_state.specs.FrontView.{FrontView, ring_order, pages_of, closed, suspended_at, suspended}
 use Rattle.xenbus_state.specs.FrontAsk.{due, due_at, leaving, closing_stage, ask_at, ask_of}
 use Rattle.xenbus_state.specs.FrontStep.{at, acted, feature_step, fact_step, after, after_feature, after_fact, after_published, after_grants, after_state, closing_news, action_news, read_news, written_news, news_at, news_of, step_at, step_of}
 use Rattle.split_model.proofs.SafeAnswers.{IsFronts, fronts_at}
@@ -39,6 +39,7 @@ use Rattle.vbd_front.specs.Step as front_step
 use Rattle.vbd_model.specs.World.{World, frontend_of}
 use Rattle.vbd_model.specs.Happening.{front_key, front_turn, front_bus_after}
 use Rattle.vbd_model.specs.Fit.{IsFit}
+use Rattle.negotiation_laws.proofs.Choices.{closed_cases, either}
 use Rattle.vbd_laws.proofs.FitFront.{asks_cases}
 use Rattle.vbd_laws.proofs.FitFrontReads.{step_is}
 use Rattle.vbd_laws.proofs.ServedTexts.{number_text, front_state_path, back_state_path, back_path, ring_path, order_path, page_path, port_path, layout_path, persistent_path, layout_text, flag_text, state_text}
@@ -64,10 +65,6 @@ IsNumber port = port < 2 ^ 32
 abbrev pub Speaks : FrontView → Type 0
 Speaks v = SpeaksWith IsNumber v
 
-either_plain : (b : Bool) (s t : FrontBusStage) → IsPlain s → IsPlain t → IsPlain (if b then s else t)
-either_plain true s t p q = p
-either_plain false s t p q = q
-
 leaving_plain : (gone : Bool) (port : Option ℕ) → IsPlain (leaving gone port)
 leaving_plain false port = tt
 leaving_plain true None = tt
@@ -78,7 +75,7 @@ closing_plain state.Closing v = leaving_plain v.gone v.port
 closing_plain own v = tt
 
 due_plain : (s : FrontBusStage) (v : FrontView) (idle : Bool) → IsPlain s → IsPlain (due_at s v idle)
-due_plain bus.Rest v idle p = either_plain (v.closing && idle) (closing_stage v.state v) bus.Rest (closing_plain v.state v) tt
+due_plain bus.Rest v idle p = either IsPlain (v.closing && idle) (closing_stage v.state v) bus.Rest (closing_plain v.state v) tt
 due_plain s v idle p = p
 
 feature_plain : (k : Option BackKey) → IsPlain (after_feature k)
@@ -118,20 +115,17 @@ page_plain order page few = by_test (nat_lt (page + 1) (2 ^ order)) refl
 published_plain : (k : FrontKey) (order : ℕ) → order ≤ 4 → IsPlain (after_published (next_published order k))
 published_plain key.RingPageOrder order few = omega arith
 published_plain (key.RingRefOf page) order few = page_plain order page few
-published_plain key.RingRef order few = tt
-published_plain key.EventChannel order few = tt
-published_plain key.Protocol order few = tt
-published_plain key.FeaturePersistent order few = tt
+published_plain other order few = tt
 
 few_orders : (v : FrontView) → v.order ≤ 4 → ring_order v ≤ 4
 few_orders v o = let least : ring_order v ≤ v.order = omega arith in omega arith
 
 after_plain : (s : FrontBusStage) (v : FrontView) → v.order ≤ 4 → IsPlain s → IsPlain (after s v)
 after_plain bus.Start v o p = tt
-after_plain (bus.RingWord word) v o p = either_plain (word == 15) (bus.Grant 0) (bus.RingWord (word + 1)) tt tt
-after_plain (bus.Grant page) v o p = either_plain (nat_lt (page + 1) (pages_of v)) (bus.Grant (page + 1)) bus.NewPort tt tt
+after_plain (bus.RingWord word) v o p = either IsPlain (word == 15) (bus.Grant 0) (bus.RingWord (word + 1)) tt tt
+after_plain (bus.Grant page) v o p = either IsPlain (nat_lt (page + 1) (pages_of v)) (bus.Grant (page + 1)) bus.NewPort tt tt
 after_plain (bus.Publish k) v o p = published_plain k (ring_order v) (few_orders v o)
-after_plain (bus.EndGrant page) v o p = either_plain (nat_lt (page + 1) (pages_of v)) (bus.EndGrant (page + 1)) bus.EndOtherGrants tt tt
+after_plain (bus.EndGrant page) v o p = either IsPlain (nat_lt (page + 1) (pages_of v)) (bus.EndGrant (page + 1)) bus.EndOtherGrants tt tt
 after_plain bus.EndOtherGrants v o p = grants_plain v.port
 after_plain s v o p = p
 
@@ -143,12 +137,7 @@ module _ (Fits : ℕ → Type 0) where
 
   acted_speaks : (act : FrontAction) (v : FrontView) → v.order ≤ 4 → IsPort Fits v.port → SpeaksWith Fits (acted act v)
   acted_speaks action.Nothing v o p = record { order = o; port = p; stage = tt }
-  acted_speaks action.Publish v o p = record { order = o; port = p; stage = tt }
-  acted_speaks action.Connect v o p = record { order = o; port = p; stage = tt }
-  acted_speaks action.Close v o p = record { order = o; port = p; stage = tt }
-  acted_speaks action.CloseAndConnect v o p = record { order = o; port = p; stage = tt }
-  acted_speaks action.Leave v o p = record { order = o; port = p; stage = tt }
-  acted_speaks (action.Break word) v o p = record { order = o; port = p; stage = tt }
+  acted_speaks other v o p = record { order = o; port = p; stage = tt }
 
   feature_speaks : (k : BackKey) (n : Option ℕ) (v : FrontView) → v.order ≤ 4 → IsPort Fits v.port → SpeaksWith Fits (feature_step k n v)
   feature_speaks k None v o p = record { order = o; port = p; stage = tt }
@@ -188,18 +177,14 @@ module _ (Fits : ℕ → Type 0) where
   MayTell None = Unit {0}
   MayTell (Some a) = Tells a.answer
 
-  either_tells : (b : Bool) (x y : Option FrontAct) → MayTell x → MayTell y → MayTell (if b then x else y)
-  either_tells true x y p q = p
-  either_tells false x y p q = q
-
   watched_tells : (h : Hypervisor) (path : Option (List ℕ)) → MayTell (front_watched h path)
   watched_tells h None = tt
   watched_tells h (Some path) = tt
 
   act_tells : (h : Hypervisor) (a : FrontAsk) → AsksFor h.channels.made a → MayTell (front_act h a)
-  act_tells h ask.Wait fits = either_tells (is_pending h.channels end.Front) _ (front_watched h (watch_next h end.Front)) tt (watched_tells h (watch_next h end.Front))
+  act_tells h ask.Wait fits = either MayTell (is_pending h.channels end.Front) _ (front_watched h (watch_next h end.Front)) tt (watched_tells h (watch_next h end.Front))
   act_tells h ask.NewPort fits = fits
-  act_tells h (ask.SetKey path text) fits = either_tells (is_own_path end.Front path) _ None tt tt
+  act_tells h (ask.SetKey path text) fits = either MayTell (is_own_path end.Front path) _ None tt tt
   act_tells h a fits = tt
 
   -- a move of the front
@@ -215,11 +200,7 @@ module _ (Fits : ℕ → Type 0) where
 
   -- a close of it, and a suspend
   pub closed_speaks : (v : FrontView) → SpeaksWith Fits v → SpeaksWith Fits (closed v)
-  closed_speaks v h = by_test (v.closing || is_broken v.stage)
-    where
-      by_test : (b : Bool) → SpeaksWith Fits (if b then v else record v { closing = true })
-      by_test true = h
-      by_test false = record { order = h.order; port = h.port; stage = h.stage }
+  closed_speaks v h = closed_cases (SpeaksWith Fits) v h (record { order = h.order; port = h.port; stage = h.stage })
 
   pub suspended_speaks : (v : FrontView) → SpeaksWith Fits v → SpeaksWith Fits (suspended v)
   suspended_speaks v h = by_stage v.stage
@@ -236,10 +217,6 @@ fronts_number c a is = tt
 
 key_asks : (Fits : ℕ → Type 0) (made : ℕ) (b : FrontBusAsk) → AsksFor Fits made (front.key_ask b)
 key_asks Fits made front_ask.Watch = tt
-key_asks Fits made front_ask.GetState = tt
-key_asks Fits made (front_ask.GetKey k) = tt
-key_asks Fits made (front_ask.SetState s) = tt
-key_asks Fits made (front_ask.SetKey k value) = tt
 key_asks Fits made b = tt
 
 -- so is what fits wherever its end of the ring asks for one
@@ -296,10 +273,6 @@ abbrev IsWordAction : FrontAction → Type 0
 IsWordAction (action.Break word) = word < 2 ^ 32
 IsWordAction act = Unit {0}
 
-either_word : (b : Bool) (x y : FrontAction) → IsWordAction x → IsWordAction y → IsWordAction (if b then x else y)
-either_word true x y p q = p
-either_word false x y p q = q
-
 offer_word : (own : BusState) → IsWordAction (on_offer own)
 offer_word state.Initialising = tt
 offer_word own = tt
@@ -318,15 +291,12 @@ gone_word false word few = few
 
 action_word : (own : BusState) (closing idle : Bool) (read : Option BusState) → IsWordAction (front_action own closing idle read)
 action_word own closing idle None = omega arith
-action_word own closing idle (Some state.InitWait) = either_word (closing && idle) action.Nothing (on_offer own) tt (offer_word own)
-action_word own closing idle (Some state.Connected) = either_word (closing && idle) action.Nothing (on_connected own) tt (connected_word own)
+action_word own closing idle (Some state.InitWait) = either IsWordAction (closing && idle) action.Nothing (on_offer own) tt (offer_word own)
+action_word own closing idle (Some state.Connected) = either IsWordAction (closing && idle) action.Nothing (on_connected own) tt (connected_word own)
 action_word own closing idle (Some state.Closing) = closing_word own idle
 action_word own closing idle (Some state.Closed) = gone_word idle 6 (omega arith)
 action_word own closing idle (Some state.Unknown) = gone_word idle 0 (omega arith)
-action_word own closing idle (Some state.Initialising) = tt
-action_word own closing idle (Some state.Initialised) = tt
-action_word own closing idle (Some state.Reconfiguring) = tt
-action_word own closing idle (Some state.Reconfigured) = tt
+action_word own closing idle (Some other) = tt
 
 begun_is : (s : FrontBusStage) (closing : Bool) → IsNewsAt s (closing_news closing)
 begun_is s true = tt

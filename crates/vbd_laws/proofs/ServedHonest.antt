@@ -498,23 +498,18 @@ unmapped_map t up e = absurd up
 -- a back that has read the layout has read all the terms of its front but one, or all
 map_reads : (s : BackBusStage) (own : BusState) (t : BackStage) → BackGoesWith s own t → t ≡ ring.MapRing → (s ≡ back_bus.ReadKey key.FeaturePersistent) ⊎ (s ≡ back_bus.MapPage)
 map_reads (back_bus.ReadKey key.FeaturePersistent) own t fits e = inl refl
-map_reads (back_bus.ReadKey k) own t fits e = not_mapping t fits.1 e refl
 map_reads back_bus.MapPage own t fits e = inr refl
-map_reads (back_bus.Publish k) own t fits e = not_mapping t fits.1 e refl
 map_reads (back_bus.WriteState state.InitWait) own t fits e = not_mapping t fits.1 e refl
 map_reads (back_bus.WriteState state.Connected) own t fits e = not_mapping t fits.1 e refl
 map_reads (back_bus.WriteState state.Closing) own t fits e = not_mapping t fits e refl
 map_reads (back_bus.WriteState state.Closed) own t fits e = not_mapping t fits.1 e refl
 map_reads (back_bus.WriteState s) own t fits e = absurd fits
-map_reads back_bus.Watch own t fits e = not_mapping t fits.1 e refl
 map_reads back_bus.Rest own t fits e = rests_map own t fits e
 map_reads back_bus.ReadState own t fits e = reads_map own t fits e
-map_reads back_bus.Bind own t fits e = not_mapping t fits.1 e refl
-map_reads (back_bus.PublishFact k) own t fits e = not_mapping t fits.1 e refl
 map_reads back_bus.UnmapOthers own t fits e = given_map t fits e
 map_reads back_bus.UnmapPage own t fits e = unmapped_map t fits e
 map_reads back_bus.ClosePort own t fits e = not_mapping t fits e refl
-map_reads back_bus.Halted own t fits e = not_mapping t fits.1 e refl
+map_reads other own t fits e = not_mapping t fits.1 e refl
 
 -- so it goes by those of a front that has written Initialised, and has its port
 record GoesByTerms (f : FrontView) (b : BackView) : Type 0 where

@@ -70,9 +70,7 @@ stated_is : (n : ℕ) (s : FrontState) (w : rings.World) → w.front.shape.order
 stated_is n (enter.Agreed order) w own is = is ∙ sym own
 stated_is n (enter.Broken word) w own is = is
 stated_is n (enter.Connected offers) w own is = is
-stated_is n enter.Closing w own is = tt
-stated_is n enter.Leaving w own is = tt
-stated_is n enter.Closed w own is = tt
+stated_is n other w own is = tt
 
 pub same_is : (n m : ℕ) (s : FrontState) → m ≡ n → IsWord n s → IsSame s m
 same_is n m (enter.Agreed order) own is = is ∙ sym own

@@ -1,5 +1,5 @@
 -- The sectors that the front reads have numbers of 64 bits, whatever the keys say.
-use Rattle.std.proofs.Common.{◌≡◌, ℕ, ◌^◌, ◌<◌, ◌||◌, Bool, true, false, if◌then◌else◌, List, refl}
+use Rattle.std.proofs.Common.{◌≡◌, ℕ, ◌^◌, ◌<◌, Bool, List, refl}
 use Rattle.std.specs.Prelude.{Option, Some, None}
 use Rattle.std.proofs.lemmas.Option.{none-some}
 use Rattle.blk_base.specs.declared.ask.FrontAnswer.{FrontAnswer}
@@ -17,13 +17,14 @@ use Rattle.xenbus_state.specs.declared.front.FrontBusAsk.TheVariants as ask
 use Rattle.xenbus_state.specs.States.{state_read}
 use Rattle.xenbus_state.specs.Tables.{front_action}
 use Rattle.xenbus_state.specs.Reading.{count_read, fact_read, with_fact}
-use Rattle.xenbus_state.specs.FrontView.{FrontView, closed, suspended, suspended_at, is_broken}
+use Rattle.xenbus_state.specs.FrontView.{FrontView, closed, suspended, suspended_at}
 use Rattle.xenbus_state.specs.FrontAsk.{due, ask_of}
 use Rattle.xenbus_state.specs.FrontStep.{at, acted, feature_step, fact_step, step_at, step_of}
 use Rattle.vbd_front.specs.View as front_view
 use Rattle.vbd_front.specs.Step.{settled_at, bus_told}
 use Rattle.vbd_model.specs.World.{World, frontend_of}
 use Rattle.vbd_model.specs.Happening.{front_bus_after}
+use Rattle.negotiation_laws.proofs.Choices.{closed_cases}
 use Rattle.vbd_laws.proofs.FitFrontReads.{step_is}
 use Rattle.vbd_laws.proofs.ServedBack.{long_small}
 
@@ -45,12 +46,7 @@ fact_sized k text v is = by_number (fact_read k text) refl
 
 acted_sized : (act : FrontAction) (v : FrontView) → IsSized v → IsSized (acted act v)
 acted_sized action.Nothing v is = is
-acted_sized action.Publish v is = is
-acted_sized action.Connect v is = is
-acted_sized action.Close v is = is
-acted_sized action.CloseAndConnect v is = is
-acted_sized action.Leave v is = is
-acted_sized (action.Break word) v is = is
+acted_sized other v is = is
 
 feature_sized : (k : BackKey) (n : Option ℕ) (v : FrontView) → IsSized v → IsSized (feature_step k n v)
 feature_sized k None v is = is
@@ -85,16 +81,11 @@ moved_sized w (Some a) is =
     step_is IsSized (frontend_of w) a.answer is (told_sized w.front (front_view.is_unoccupied w.rings.front) a.answer is) (told_sized w.front (front_view.is_unoccupied w.rings.front) answer.Done is)
 
 pub closed_sized : (v : FrontView) → IsSized v → IsSized (closed v)
-closed_sized v is = by_test (v.closing || is_broken v.stage)
-  where
-    by_test : (b : Bool) → IsSized (if b then v else record v { closing = true })
-    by_test true = is
-    by_test false = is
+closed_sized v is = closed_cases IsSized v is is
 
 pub suspended_sized : (v : FrontView) → IsSized v → IsSized (suspended v)
 suspended_sized v is = by_stage v.stage
   where
     by_stage : (s : FrontBusStage) → IsSized (suspended_at s v)
     by_stage stage.Closed = is
-    by_stage (stage.Broken word) = is
     by_stage s = is

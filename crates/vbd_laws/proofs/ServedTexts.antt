@@ -75,14 +75,7 @@ back_state_path = refl
 pub back_path : (k : BackKey) → is_key_path (path_under end.Back (back_name k)) ≡ true
 unfolding is_key_path
 back_path back_key.FeatureBarrier = refl
-back_path back_key.FeatureFlushCache = refl
-back_path back_key.FeatureDiscard = refl
-back_path back_key.FeaturePersistent = refl
-back_path back_key.FeatureMaxIndirectSegments = refl
-back_path back_key.MaxRingPageOrder = refl
-back_path back_key.Sectors = refl
-back_path back_key.SectorSize = refl
-back_path back_key.Info = refl
+back_path other = refl
 
 pub ring_path : is_key_path (path_under end.Front (codes "ring-ref")) ≡ true
 unfolding is_key_path
@@ -141,14 +134,7 @@ flag_text false = number_text 0 (omega arith)
 
 pub few_states : (s : BusState) → state_number s ≤ 8
 few_states state.Unknown = omega arith
-few_states state.Initialising = omega arith
-few_states state.InitWait = omega arith
-few_states state.Initialised = omega arith
-few_states state.Connected = omega arith
-few_states state.Closing = omega arith
-few_states state.Closed = omega arith
-few_states state.Reconfiguring = omega arith
-few_states state.Reconfigured = omega arith
+few_states other = omega arith
 
 pub state_text : (s : BusState) → is_key_text (decimal (state_number s)) ≡ true
 state_text s = let few = few_states s in number_text (state_number s) (omega arith)

@@ -8,11 +8,9 @@ use Rattle.blk_base.specs.declared.ask.BackAsk.{BackAsk}
 use Rattle.blk_base.specs.declared.moves.BackMover.{BackMover}
 use Rattle.blk_base.specs.declared.moves.BackMover.TheVariants as back_mover
 use Rattle.blk_base.specs.declared.moves.Move.{Move}
-use Rattle.schedule_text.specs.declared.line.Detail.{Detail}
 use Rattle.schedule_text.specs.declared.line.Detail.TheVariants.{Moves}
 use Rattle.schedule_text.specs.declared.line.Line.{Line}
 use Rattle.schedule_text.specs.declared.line.Line.TheVariants as lines
-use Rattle.schedule_text.specs.Recorder.{kept_of}
 use Rattle.hypervisor.specs.Hypervisor.{Hypervisor}
 use Rattle.hypervisor.specs.Act.{FrontAct, BackAct, Outcome, Took, back_act}
 use Rattle.blk_front.specs.declared.told.Told.{Told}
@@ -24,7 +22,6 @@ use Rattle.xenbus_state.specs.declared.front.FrontNews.{FrontNews}
 use Rattle.xenbus_state.specs.declared.front.FrontNews.TheVariants as news
 use Rattle.split_model.specs.World as rings
 use Rattle.split_model.specs.Happening as ring
-use Rattle.split_model.specs.Report as ring_report
 use Rattle.split_model.specs.Shown.{front_lines, back_lines, halt_lines}
 use Rattle.split_model.proofs.Acting.{back_acts, BackEvent}
 use Rattle.split_model.proofs.Outside.{IsOutside}
@@ -35,14 +32,12 @@ use Rattle.vbd_back.specs.View as back_view
 use Rattle.vbd_back.specs.Ask as back_asked
 use Rattle.vbd_back.specs.Step as back_step
 use Rattle.vbd_model.specs.World.{World, start_of, frontend_of, backend_of}
-use Rattle.vbd_model.specs.Happening.{Happening, FrontMoves, BackMoves, JobMoves, Closes, all_does, does, front_turn, back_turn, happens, lines_at, lines_of, after as after_all}
+use Rattle.vbd_model.specs.Happening.{Happening, FrontMoves, BackMoves, JobMoves, Closes, does, front_turn, back_turn, happens, lines_at, lines_of, after as after_all}
 use Rattle.vbd_model.specs.News.{news_lines}
 use Rattle.vbd_model.specs.Fit.{IsFit}
 use Rattle.vbd_model.specs.Report.{report_of, ended_report_of}
-use Rattle.vbd_model.proofs.Running.{report_lift, ended_report_lift}
-use Rattle.move_laws.proofs.Recorded.{report_kept, ended_kept}
 use Rattle.vbd_laws.specs.Moves.{IsFrontMove, IsBackMove, IsNoMove}
-use Rattle.vbd_laws.specs.StateLines.{StateDue, NoState, ReadyDue, ClosedDue, ClosingDue, LeavingDue, move_due, is_closing, StateSight, new_front, from, said_by, Stands, IsStateLineAt, StandAsSaid, EachReportsStates, EachEndedsStates, BeginsToClose, ClosingComes, EachClosingComes}
+use Rattle.vbd_laws.specs.StateLines.{StateDue, NoState, ReadyDue, ClosedDue, move_due, is_closing, StateSight, new_front, from, said_by, Stands, IsStateLineAt, StandAsSaid, EachReportsStates, EachEndedsStates, BeginsToClose, ClosingComes, EachClosingComes}
 use Rattle.vbd_laws.proofs.StateLinesBegun.{from-append, begun}
 use Rattle.vbd_laws.proofs.StateLinesOver.{over}
 use Rattle.vbd_laws.proofs.StateLinesFront.{Agrees}
@@ -50,6 +45,7 @@ use Rattle.vbd_laws.proofs.MovesFront.{front_move_is, front_move_none}
 use Rattle.vbd_laws.proofs.MovesBack.{back_move_is, back_move_none}
 use Rattle.vbd_laws.proofs.Fit.{fit_start, fit_happens}
 use Rattle.vbd_laws.proofs.StateLinesMoves.{follows_on, Goes, IsPlain, plain_goes, plain_closing, plain_may, news_may, Tells, tells_goes, front_tells}
+use Rattle.vbd_laws.proofs.Recorded.{report_recorded, ended_recorded}
 
 -- the back and a job read and set no key as the front
 back_plain : (h : Hypervisor) (who : BackMover) (ask : BackAsk) (o : Outcome) (a : BackAct) → back_act h who ask o ≡ Some a → IsPlain (lines.Move a.shown)
@@ -185,24 +181,11 @@ ended_runs config history few =
     let is = reached config history few in
     obeys_more IsStateLineAt (report_of config Moves history) lines.End (report_runs config history few) (plain_may (said_by (report_of config Moves history)) lines.End is.knows.due refl)
 
--- what a recorder of moves keeps is all
-all_kept : (config : Options) (history : List Happening) → kept_of Moves (report_of config Moves history) ≡ report_of config Moves history
-all_kept config history =
-    let lift = report_lift config Moves history in
-    ap (kept_of Moves) lift ∙ (report_kept config (all_does history (start_of config)) ∙ sym lift)
-
-ended_all : (config : Options) (history : List Happening) → kept_of Moves (ended_report_of config Moves history) ≡ ended_report_of config Moves history
-ended_all config history =
-    let lift = ended_report_lift config Moves history in
-    ap (kept_of Moves) lift ∙ (ended_kept config (all_does history (start_of config)) ∙ sym lift)
-
 pub report_states : EachReportsStates
-report_states config detail history few same =
-    subst (λ (d : Detail). StandAsSaid (kept_of d (report_of config d history))) (sym same) (subst (λ (ls : List Line). StandAsSaid ls) (sym (all_kept config history)) (report_runs config history few))
+report_states config detail history few same = report_recorded StandAsSaid config detail history same (report_runs config history few)
 
 pub ended_states : EachEndedsStates
-ended_states config detail history few same =
-    subst (λ (d : Detail). StandAsSaid (kept_of d (ended_report_of config d history))) (sym same) (subst (λ (ls : List Line). StandAsSaid ls) (sym (ended_all config history)) (ended_runs config history few))
+ended_states config detail history few same = ended_recorded StandAsSaid config detail history same (ended_runs config history few)
 
 -- Each `closing` line comes of a read, or as the front is asked to close.
 news_opens : (n : Option FrontNews) → list_any is_closing (news_lines n) ≡ true → n ≡ Some news.Closing
@@ -222,8 +205,7 @@ agrees_begins : (b : Bool) (d : StateDue) → Agrees b d (Some news.Closing) →
 agrees_begins b NoState is = absurd (true≢false is)
 agrees_begins b ReadyDue is = absurd (cc)
 agrees_begins b ClosedDue is = let same : Some news.Closing ≡ Some news.Closed = is.0 in absurd (cc)
-agrees_begins b ClosingDue is = tt
-agrees_begins b LeavingDue is = tt
+agrees_begins b other is = tt
 
 front_begins : (k : StateSight) (w : World) (act : Option FrontAct) → IsFit w → Knowing k w → front_turn w ≡ act → ClosingComes k.begun w FrontMoves (lines_at w FrontMoves)
 front_begins k w None fit has e move more is closes =

@@ -74,12 +74,8 @@ plain x line other shows = refl
 
 -- where the state is entered that line is shown
 entered : (k : StateSight) (s : FrontState) (v : front.View) → k.begun ≡ v.closing → (from k (state_lines s)).begun ≡ (in_state s v).closing
-entered k (state.Agreed order) v same = same
-entered k (state.Connected offers) v same = same
 entered k state.Closing v same = refl
-entered k state.Leaving v same = same
-entered k state.Closed v same = same
-entered k (state.Broken word) v same = same
+entered k other v same = same
 
 enters_begun : (k : StateSight) (s : FrontState) (w : World) → k.begun ≡ w.front.closing → (from k (ring.lines_at w (FrontEnters s))).begun ≡ (let v : World = ring.happens w (FrontEnters s) in v.front.closing)
 enters_begun k s w same = enters_cases (λ (v : front.View) (shown : List Line). (from k shown).begun ≡ v.closing) s w.front (λ may. entered k s w.front same) same

@@ -40,6 +40,7 @@ use Rattle.xenbus_state.specs.FrontStep.{at, closing_news, action_news, read_new
 use Rattle.split_model.proofs.SafeActs.{of_front, front_test}
 use Rattle.vbd_front.specs.Ask as front
 use Rattle.vbd_front.specs.Step.{state_of_news, news_told}
+use Rattle.negotiation_laws.proofs.Choices.{either}
 use Rattle.vbd_laws.specs.Halts.{state_said}
 use Rattle.vbd_laws.specs.StateLines.{StateDue, NoState, ReadyDue, ClosedDue, ClosingDue, LeavingDue, set_due, state_due, read_due, move_due}
 use Rattle.vbd_laws.proofs.FitFrontBus.{due_cases}
@@ -110,10 +111,6 @@ connected_quiet : (own : BusState) (closing : Bool) → is_state (action_news (o
 connected_quiet state.Initialised closing = refl
 connected_quiet own closing = refl
 
-either_quiet : (b : Bool) (x y : FrontAction) (closing : Bool) → is_state (action_news x closing) ≡ false → is_state (action_news y closing) ≡ false → is_state (action_news (if b then x else y) closing) ≡ false
-either_quiet true x y closing p q = p
-either_quiet false x y closing p q = q
-
 close_is : (own : BusState) (idle closing : Bool) → action_news (on_closing own idle) closing ≡ closing_news closing
 close_is state.Initialised true closing = refl
 close_is state.Initialised false closing = refl
@@ -133,10 +130,10 @@ state_reads : (own : BusState) (begun idle : Bool) (offers : Offers) (r : ring.V
 state_reads own begun idle offers r None same opened = no_state offers (Some (news.Broken 9)) r refl
 state_reads own begun idle offers r (Some state.Initialising) same opened = quiet_reads begun offers None r (Some 1) refl (none_due begun 1 refl)
 state_reads own begun idle offers r (Some state.InitWait) same opened =
-    quiet_reads begun offers _ r (Some 2) (either_quiet (begun && idle) _ (on_offer own) begun refl (offer_quiet own begun)) (none_due begun 2 refl)
+    quiet_reads begun offers _ r (Some 2) (either (λ (one : FrontAction). is_state (action_news one begun) ≡ false) (begun && idle) _ (on_offer own) refl (offer_quiet own begun)) (none_due begun 2 refl)
 state_reads own begun idle offers r (Some state.Initialised) same opened = quiet_reads begun offers None r (Some 3) refl (none_due begun 3 refl)
 state_reads own begun idle offers r (Some state.Connected) same opened =
-    quiet_reads begun offers _ r (Some 4) (either_quiet (begun && idle) _ (on_connected own) begun refl (connected_quiet own begun)) (none_due begun 4 refl)
+    quiet_reads begun offers _ r (Some 4) (either (λ (one : FrontAction). is_state (action_news one begun) ≡ false) (begun && idle) _ (on_connected own) refl (connected_quiet own begun)) (none_due begun 4 refl)
 state_reads own begun idle offers r (Some state.Closing) same opened = subst (λ (n : Option FrontNews). Reads begun offers n r (Some 5)) (sym (close_is own idle begun)) (closing_reads begun offers r same opened)
 state_reads own begun idle offers r (Some state.Closed) same opened = gone_reads begun idle offers r 6 refl same opened
 state_reads own begun idle offers r (Some state.Unknown) same opened = gone_reads begun idle offers r 0 refl same opened
@@ -146,22 +143,11 @@ state_reads own begun idle offers r (Some state.Reconfigured) same opened = quie
 -- it reads another key, and sets one
 key_unstated : (begun : Bool) (k : BackKey) (text : Option (List ℕ)) → read_due begun (path_under end.Back (back_name k)) text ≡ NoState
 key_unstated begun back_key.FeatureBarrier text = refl
-key_unstated begun back_key.FeatureFlushCache text = refl
-key_unstated begun back_key.FeatureDiscard text = refl
-key_unstated begun back_key.FeaturePersistent text = refl
-key_unstated begun back_key.FeatureMaxIndirectSegments text = refl
-key_unstated begun back_key.MaxRingPageOrder text = refl
-key_unstated begun back_key.Sectors text = refl
-key_unstated begun back_key.SectorSize text = refl
-key_unstated begun back_key.Info text = refl
+key_unstated begun other text = refl
 
 own_unstated : (k : FrontKey) (text : List ℕ) → set_due (path_under end.Front (front_name k)) text ≡ NoState
 own_unstated front_key.RingPageOrder text = refl
-own_unstated front_key.RingRef text = refl
-own_unstated (front_key.RingRefOf page) text = refl
-own_unstated front_key.EventChannel text = refl
-own_unstated front_key.Protocol text = refl
-own_unstated front_key.FeaturePersistent text = refl
+own_unstated other text = refl
 
 read_unstated : (n : Option ℕ) → is_state (read_news n) ≡ false
 read_unstated None = refl
@@ -174,13 +160,7 @@ by_digit begun s told small is = subst (λ (d : StateDue). Agrees begun d told) 
 writes : (begun : Bool) (s : BusState) (offers : Offers) (v : FrontView) (r : ring.View) → begun ≡ r.closing → MayTell (stage.WriteState s) v r → Agrees begun (set_due front.own_state (decimal (state_number s))) (news_told offers (written_news s) r)
 writes begun state.Connected offers v r same may = by_digit begun state.Connected (news_told offers (Some news.Ready) r) (omega arith) (told_as offers news.Ready r may)
 writes begun state.Closed offers v r same may = by_digit begun state.Closed (news_told offers (Some news.Closed) r) (omega arith) (told_as offers news.Closed r may, same ∙ (both_true r.closing (length r.requests == 0) (both_true (is_through r) (is_bare r.stage) may).0).0)
-writes begun state.Unknown offers v r same may = by_digit begun state.Unknown None (omega arith) refl
-writes begun state.Initialising offers v r same may = by_digit begun state.Initialising None (omega arith) refl
-writes begun state.InitWait offers v r same may = by_digit begun state.InitWait None (omega arith) refl
-writes begun state.Initialised offers v r same may = by_digit begun state.Initialised None (omega arith) refl
-writes begun state.Closing offers v r same may = by_digit begun state.Closing None (omega arith) refl
-writes begun state.Reconfiguring offers v r same may = by_digit begun state.Reconfiguring None (omega arith) refl
-writes begun state.Reconfigured offers v r same may = by_digit begun state.Reconfigured None (omega arith) refl
+writes begun other offers v r same may = by_digit begun other None (omega arith) refl
 
 -- its negotiation speaks
 abbrev Tells : (begun idle : Bool) → (FrontAnswer → Offers) → FrontBusStage → FrontView → ring.View → FrontAct → Type 0

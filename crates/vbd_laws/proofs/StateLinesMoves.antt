@@ -152,9 +152,8 @@ told_plain (Some (front_told.Broken word)) = (refl, tt)
 none_due : (b : Bool) (d : StateDue) → Agrees b d None → d ≡ NoState
 none_due b NoState is = refl
 none_due b ReadyDue is = absurd (none-some _ is)
-none_due b ClosedDue is = absurd (none-some _ is.0)
-none_due b ClosingDue is = absurd (none-some _ is.0)
 none_due b LeavingDue is = elim is.0 [ inl closes ↦ absurd (none-some _ closes) | inr breaks ↦ absurd (none-some _ breaks.1) ]
+none_due b other is = absurd (none-some _ is.0)
 
 pub tells_goes : (k : StateSight) (opened : Bool) (shown : Move) (x : front_view.View) → k.due ≡ NoState → (k.over ≡ true → opened ≡ false) → Tells k.begun opened shown x → Goes k (lines.Move shown ∷ (front_lines x.ring.told ++ news_lines x.news))
 tells_goes k opened shown x none closed is = record {

@@ -66,10 +66,7 @@ looked_breaks v word otherwise none same =
 
 begun_quiet : (v : View) (r : Request) (way : Transfer) → is_break v.told ≡ false → (let x : View = begun v r way in is_break x.told) ≡ false
 begun_quiet v r transfer.Read none = none
-begun_quiet v r (transfer.Write tag) none = none
-begun_quiet v r (transfer.Barrier tag) none = none
-begun_quiet v r transfer.Flush none = none
-begun_quiet v r (transfer.Discard sectors) none = none
+begun_quiet v r other none = none
 
 loop_breaks : (v : View) (r : Option Request) (a : FrontAnswer) → is_break v.told ≡ false → Breaks (loop_step v r a)
 loop_breaks v (Some r) a none = quiet (begun v r r.transfer) (begun_quiet v r r.transfer none)
@@ -190,12 +187,9 @@ front_over k w (Some a) safe has = λ over. elim (either_over (is_break x.told) 
     x = step_at w.front.stage w.front a.answer
 
 entered_over : (k : StateSight) (s : FrontState) (v : View) → is_open v.stage ≡ true → IsOverAt k v → IsOverAt (from k (state_lines s)) (in_state s v)
-entered_over k (state.Agreed order) v opened has over = absurd (true≢false (sym opened ∙ has over))
-entered_over k (state.Connected offers) v opened has over = absurd (true≢false (sym opened ∙ has over))
-entered_over k state.Closing v opened has over = absurd (true≢false (sym opened ∙ has over))
-entered_over k state.Leaving v opened has over = absurd (true≢false (sym opened ∙ has over))
 entered_over k state.Closed v opened has over = refl
 entered_over k (state.Broken word) v opened has over = refl
+entered_over k other v opened has over = absurd (true≢false (sym opened ∙ has over))
 
 -- whatever else happens shows no such line, and leaves a front that isn't open
 abbrev IsOther : Happening → Type 0

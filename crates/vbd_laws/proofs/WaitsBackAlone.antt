@@ -34,6 +34,7 @@ use Rattle.vbd_back.specs.Step as back_step
 use Rattle.vbd_model.specs.World.{World, start_of, backend_of}
 use Rattle.vbd_model.specs.Happening.{Happening, FrontMoves, BackMoves, Closes, Suspends, front_turn, back_turn, back_does, halted_at, renewed_bus, happens, after}
 use Rattle.vbd_model.specs.Fit.{BackGoesWith}
+use Rattle.negotiation_laws.proofs.Choices.{unplugged_cases}
 use Rattle.vbd_laws.specs.Waits as waits
 use Rattle.vbd_laws.specs.Waits.{Check, Awake, Heard, Unwatched, Watching, Fired, Read, back_hears, back_check, back_check_in, back_heard_by, back_heard_in, back_heard, is_serving, BackWaits}
 use Rattle.xenbus_state.specs.declared.keys.FrontKey.{FrontKey}
@@ -63,7 +64,6 @@ ring_heard a x h own allowed = absurd allowed
 
 wait_heard : (x : BackAnswer) (h : Heard) → back_hears back_ask.Wait x h ≡ heard_waiting x h
 wait_heard (answer.Watched path) h = refl
-wait_heard answer.Event h = refl
 wait_heard x h = refl
 
 -- where it isn't a wait no watch is taken
@@ -149,11 +149,7 @@ front_turns w c h None k l e = let is = front_move_none w k.fit e in subst (Hear
 front_turns w c h (Some a) k l e = let is = front_move_is w a k.fit e in subst (HearsIn h) (sym is.world) l
 
 close_turns : (v : BackView) (h : Heard) → Hears v h → Hears (unplugged v) h
-close_turns v h l = by_test (is_halting v.stage)
-  where
-    by_test : (b : Bool) → Hears (if b then v else record v { unplugged = true }) h
-    by_test true = l
-    by_test false = l
+close_turns v h l = unplugged_cases (λ (u : BackView). Hears u h) v l l
 
 -- the domain is suspended: a new back has heard nothing
 suspends : (w : World) (h : Heard) → Hears w.back h → HearsIn (back_heard_in w Suspends h) (happens w Suspends)
@@ -182,13 +178,12 @@ hears_after (x ∷ hs) w c h k l = hears_after hs (happens w x) (back_check_in w
 module _ (w : World) (c : Check) (h : Heard) (k : Knows w c) (l : Hears w.back h) where
   -- where it rests it has done what the table gives
   done_by : (x : Heard) → IsDealt w.back.state x → waits.BackHasDone w.back.state w.back.unplugged x
-  done_by Unwatched is = is
-  done_by Fired is = is
   done_by Watching is = tt
   done_by (Read (Some state.Initialising)) is = ap (λ (b : Bool). if b then bad_order state.Initialising else action.Nothing) is
   done_by (Read (Some state.Initialised)) is = ap (λ (b : Bool). if b then action.Nothing else action.Connect) is
   done_by (Read (Some state.Connected)) is = ap (λ (b : Bool). if b then action.Nothing else action.Connect) is
   done_by (Read last) is = absurd is
+  done_by other is = is
 
   running : w.back.stage ≡ stage.Rest → w.rings.back.halted ≡ None
   running here = by_halt w.rings.back.halted refl (k.fit.halted ∙ ap is_halting here)
@@ -252,10 +247,7 @@ module _ (w : World) (c : Check) (h : Heard) (k : Knows w c) (l : Hears w.back h
       by_stage (stage.WriteState state.Closing) here is goes = halts (stage.WriteState state.Closing) here refl
       by_stage (stage.WriteState state.Closed) here is goes = halts (stage.WriteState state.Closed) here refl
       by_stage (stage.WriteState s) here is goes = absurd goes
-      by_stage stage.UnmapOthers here is goes = halts stage.UnmapOthers here refl
-      by_stage stage.UnmapPage here is goes = halts stage.UnmapPage here refl
-      by_stage stage.ClosePort here is goes = halts stage.ClosePort here refl
-      by_stage stage.Halted here is goes = halts stage.Halted here refl
+      by_stage other here is goes = halts other here refl
 
   told_rests : back_asks w ≡ bus_ask.Wait → (w.back.state ≡ state.Closed → ⊥) → waits.BackRests w h
   told_rests e unclosed = by_bus (bus_waits w.back e)

@@ -86,11 +86,10 @@ bus_waits b e = by_test (bus.says_closing b) refl e
     by_stage stage.Watch here says e = bus_asks_on bus_ask.Watch refl e
     by_stage stage.ReadState here says e = bus_asks_on bus_ask.GetState refl e
     by_stage (stage.ReadKey key) here says e = bus_asks_on (bus_ask.GetKey key) refl e
-    by_stage stage.MapPage here says e = bus_asks_on (bus.ask_at stage.MapPage b) refl e
-    by_stage stage.Bind here says e = bus_asks_on (bus.ask_at stage.Bind b) refl e
     by_stage (stage.PublishFact key) here says e = bus_asks_on (bus.ask_at (stage.PublishFact key) b) refl e
     by_stage stage.UnmapOthers here says e = bus_asks_on bus_ask.UnmapOthers refl e
     by_stage stage.ClosePort here says e = bus_asks_on bus_ask.ClosePort refl e
+    by_stage other here says e = bus_asks_on (bus.ask_at other b) refl e
 
     by_test : (says : Bool) → bus.says_closing b ≡ says → (if says then bus_ask.SetState state.Closing else bus.ask_at b.stage b) ≡ bus_ask.Wait → BusWaits b
     by_test true says e = bus_asks_on (bus_ask.SetState state.Closing) refl e
@@ -135,36 +134,26 @@ within_moves bus_ask.Watch s within says = any s
   where
     any : (s : BackStage) → back.ring_moves bus_ask.Watch s ≡ back.ring_moves bus_ask.Wait s
     any ring_stage.InitWait = refl
-    any ring_stage.MapRing = refl
-    any ring_stage.Bind = refl
     any s = refl
 within_moves bus_ask.GetState s within says = any s
   where
     any : (s : BackStage) → back.ring_moves bus_ask.GetState s ≡ back.ring_moves bus_ask.Wait s
     any ring_stage.InitWait = refl
-    any ring_stage.MapRing = refl
-    any ring_stage.Bind = refl
     any s = refl
 within_moves (bus_ask.GetKey key) s within says = any s
   where
     any : (s : BackStage) → back.ring_moves (bus_ask.GetKey key) s ≡ back.ring_moves bus_ask.Wait s
     any ring_stage.InitWait = refl
-    any ring_stage.MapRing = refl
-    any ring_stage.Bind = refl
     any s = refl
 within_moves (bus_ask.SetState own) s within says = any s
   where
     any : (s : BackStage) → back.ring_moves (bus_ask.SetState own) s ≡ back.ring_moves bus_ask.Wait s
     any ring_stage.InitWait = refl
-    any ring_stage.MapRing = refl
-    any ring_stage.Bind = refl
     any s = refl
 within_moves (bus_ask.SetKey key value) s within says = any s
   where
     any : (s : BackStage) → back.ring_moves (bus_ask.SetKey key value) s ≡ back.ring_moves bus_ask.Wait s
     any ring_stage.InitWait = refl
-    any ring_stage.MapRing = refl
-    any ring_stage.Bind = refl
     any s = refl
 within_moves b s within says = absurd (true≢false (sym says))
 
@@ -248,8 +237,6 @@ module _ (w : World) (c : Check) (k : Knows w c) where
   unmapping s (page ∷ pages) here same is some e = absurd is
 
   begun : (s : BackBusStage) → BackGoesWith s w.back.state r → IsPlaced s w.back → Only s
-  begun stage.Rest goes placed e = refl
-  begun stage.Halted goes placed e = refl
   begun (stage.Publish key) goes placed e = speaking (bus.ask_at (stage.Publish key) w.back) refl e
   begun (stage.WriteState s) goes placed e = speaking (bus_ask.SetState s) refl e
   begun stage.Watch goes placed e = speaking bus_ask.Watch refl e
@@ -261,6 +248,7 @@ module _ (w : World) (c : Check) (k : Knows w c) where
   begun stage.UnmapOthers goes placed e = giving r refl goes e
   begun stage.UnmapPage goes placed e = unmapping r w.back.pages refl refl goes placed.1 e
   begun stage.ClosePort goes placed e = moving bus_ask.ClosePort ring_stage.ClosePort goes refl refl refl e
+  begun other goes placed e = refl
 
   pub only_rests : back.ask_of v ≡ back_ask.Wait → back_asks w ≡ bus_ask.Wait
   only_rests = by_test (bus.says_closing w.back)
@@ -323,16 +311,13 @@ module _ (w : World) (c : Check) (k : Knows w c) where
   closed_at (stage.WriteState state.Closing) here goes placed own = above w.back.state own (let low = placed.0 in omega (arith, low))
   closed_at (stage.WriteState state.Closed) here goes placed own = differs w.back.state state.Closing own goes.0 refl
   closed_at (stage.WriteState s) here goes placed own = absurd goes
-  closed_at stage.Watch here goes placed own = differs w.back.state state.InitWait own goes.0 refl
   closed_at stage.Rest here goes placed own = absurd (subst (λ (s : BusState). BackRests s r) own goes)
   closed_at stage.ReadState here goes placed own = absurd (subst (λ (s : BusState). BackReads s r) own goes)
   closed_at (stage.ReadKey key) here goes placed own = differs w.back.state state.InitWait own placed.0 refl
-  closed_at stage.MapPage here goes placed own = differs w.back.state state.InitWait own goes.0 refl
-  closed_at stage.Bind here goes placed own = differs w.back.state state.InitWait own goes.0 refl
-  closed_at (stage.PublishFact key) here goes placed own = differs w.back.state state.InitWait own goes.0 refl
   closed_at stage.UnmapOthers here goes placed own = above w.back.state own placed
   closed_at stage.UnmapPage here goes placed own = above w.back.state own placed.0
   closed_at stage.ClosePort here goes placed own = above w.back.state own placed.0
+  closed_at other here goes placed own = differs w.back.state state.InitWait own goes.0 refl
 
   -- so does one whose negotiation rests before Connected
   early_waits : w.back.state ≡ state.InitWait → back_asks w ≡ bus_ask.Wait → BusWaits w.back → back.ask_of v ≡ back_ask.Wait

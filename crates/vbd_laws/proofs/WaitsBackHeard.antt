@@ -101,11 +101,7 @@ acted_hears v None = tt
 -- another key is none of a state
 unlike_state : (key : FrontKey) → bytes_eq (path_under Front (front_name key)) back.other_state ≡ false
 unlike_state front_key.RingPageOrder = refl
-unlike_state front_key.RingRef = refl
-unlike_state (front_key.RingRefOf page) = refl
-unlike_state front_key.EventChannel = refl
-unlike_state front_key.Protocol = refl
-unlike_state front_key.FeaturePersistent = refl
+unlike_state other = refl
 
 key_heard : (key : FrontKey) (text : Option (List ℕ)) (h : Heard) → back_hears (back.key_ask (bus_ask.GetKey key)) (answer.Key text) h ≡ h
 key_heard key text h = ap (λ (b : Bool). if b then Read (state_read text) else h) (unlike_state key)
@@ -129,10 +125,7 @@ connects_at s own h is connects = absurd (true≢false (sym is))
 reads_on : (k : FrontKey) (v u : BackView) → Reads k v u → is_reading u.stage ≡ true
 reads_on front_key.Protocol v u r = ap is_reading r.next.0
 reads_on front_key.FeaturePersistent v u r = ap is_reading r.next.0
-reads_on front_key.RingPageOrder v u r = early u.stage r.next
-reads_on front_key.RingRef v u r = early u.stage r.next
-reads_on (front_key.RingRefOf page) v u r = early u.stage r.next
-reads_on front_key.EventChannel v u r = early u.stage r.next
+reads_on other v u r = early u.stage r.next
 
 key_hears : (k : FrontKey) (text : Option (List ℕ)) (v : BackView) (h : Heard) → Connects h → Hears (kept_or_halted (key_read k text v) v) h
 key_hears k text v h connects = reads_key (λ (o : Option BackView). Hears (kept_or_halted o v) h) k text v (λ u r. connects_at u.stage u.state h (reads_on k v u r) connects) tt
@@ -186,13 +179,11 @@ closing_hears : (s : BackBusStage) (own : BusState) (h : Heard) → says_closing
 closing_hears stage.Rest state.Connected h says is = dealt h is
   where
     dealt : (h : Heard) → IsDealt state.Connected h → IsDealt state.Closing h
-    dealt Unwatched is = is
-    dealt Fired is = is
-    dealt Watching is = is
     dealt (Read (Some state.Initialising)) is = absurd (true≢false is)
     dealt (Read (Some state.Initialised)) is = is
     dealt (Read (Some state.Connected)) is = is
     dealt (Read last) is = absurd is
+    dealt other is = is
 closing_hears stage.ReadState state.Connected h says is = is
 closing_hears s own h says is = absurd (true≢false (sym says))
 
@@ -327,11 +318,4 @@ woken_hears v h (answer.Watched path) is e = by_bus (bus_waits v e)
     by_bus (inr (inl here)) = told stage.Halted here (quiet_at stage.Halted here refl) (stays stage.Halted v Fired here tt)
     by_bus (inr (inr found)) = told stage.UnmapPage found.0 (quiet_at stage.UnmapPage found.0 refl) (stays stage.UnmapPage v Fired found.0 tt)
 woken_hears v h answer.Event is e = is
-woken_hears v h answer.Done is e = is
-woken_hears v h (answer.Word word) is e = is
-woken_hears v h (answer.Mapped page) is e = is
-woken_hears v h (answer.MapRefused status) is e = is
-woken_hears v h answer.BindRefused is e = is
-woken_hears v h (answer.Key text) is e = is
-woken_hears v h (answer.Sector words) is e = is
-woken_hears v h answer.DiskFailed is e = is
+woken_hears v h other is e = is

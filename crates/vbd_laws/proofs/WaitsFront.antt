@@ -41,6 +41,7 @@ use Rattle.vbd_front.specs.Step as front_step
 use Rattle.vbd_model.specs.World.{World, start_of, frontend_of}
 use Rattle.vbd_model.specs.Happening.{Happening, FrontMoves, BackMoves, JobMoves, Closes, Submits, Suspends, front_turn, back_turn, front_does, entered_at, happens, after}
 use Rattle.vbd_model.specs.Fit.{IsFit}
+use Rattle.negotiation_laws.proofs.Choices.{either}
 use Rattle.vbd_laws.specs.Waits.{Check, Awake, front_checks, front_check_by, front_check_in, front_check}
 use Rattle.vbd_laws.proofs.Fit.{fit_start, fit_happens}
 use Rattle.vbd_laws.proofs.MovesTurns.{front_asks, front_says, front_cases}
@@ -206,15 +207,8 @@ pub loop_waits : (f : ends.View) → front_ring.loop_ask f (ends.next_request f)
 loop_waits f e = by_next (ends.next_request f) refl e
   where
     begins : (r : Request) (way : Transfer) → is_wait (front_ring.issue_ask f r way) ≡ false
-    begins r (transfer.Write tag) = refl
-    begins r (transfer.Barrier tag) = refl
-    begins r transfer.Flush = refl
-    begins r (transfer.Discard sectors) = refl
-    begins r transfer.Read = by_test (is_indirect r.count)
-      where
-        by_test : (b : Bool) → is_wait (if b then front_ring.page_ask (Some r) 0 else front_ring.name_ask (Some r) 0) ≡ false
-        by_test true = refl
-        by_test false = refl
+    begins r transfer.Read = either (λ (a : FrontAsk). is_wait a ≡ false) (is_indirect r.count) (front_ring.page_ask (Some r) 0) (front_ring.name_ask (Some r) 0) refl refl
+    begins r other = refl
 
     by_none : (waits none : Bool) → (f.ring.asleep || front_ring.is_through f) ≡ waits
         → (if waits then front_ask.Wait else (if none then front_ask.Read ends.ring_frame 2 else front_ask.Read (ends.slot_frame f.shape f.ring.indices.cons 0) (ends.slot_word f.shape f.ring.indices.cons 0))) ≡ front_ask.Wait → (f.ring.asleep || front_ring.is_through f) ≡ true

@@ -276,11 +276,6 @@ module _ (w : World) (c : Check) (h : Heard) (k : Knows w c) (l : Listens w.fron
       by_stage stage.Rest here is goes = at_rest here is
       by_stage stage.Start here is goes = unheard Unwatched is.0 (λ done. done)
       by_stage stage.ReadState here is goes = unheard Fired is.0 (λ done. done)
-      by_stage (stage.ReadFeature key) here is goes = absurd (publishes_undone goes.0 is.0 rests)
-      by_stage (stage.RingWord word) here is goes = absurd (publishes_undone goes.0 is.0 rests)
-      by_stage (stage.Grant page) here is goes = absurd (publishes_undone goes.0 is.0 rests)
-      by_stage stage.NewPort here is goes = absurd (publishes_undone goes.0 is.0 rests)
-      by_stage (stage.Publish key) here is goes = absurd (publishes_undone goes.0 is.0 rests)
       by_stage (stage.WriteState state.Initialised) here is goes = absurd (publishes_undone goes.0 is.0 rests)
       by_stage (stage.ReadFact key) here is goes = absurd (connects_undone goes.0 is.0 rests)
       by_stage (stage.WriteState state.Connected) here is goes = absurd (connects_undone goes.0 is.0 rests)
@@ -291,6 +286,7 @@ module _ (w : World) (c : Check) (h : Heard) (k : Knows w c) (l : Listens w.fron
       by_stage stage.ClosePort here is goes = ends is
       by_stage stage.Closed here is goes = absurd (unclosed goes.0)
       by_stage (stage.Broken word) here is goes = absurd (true≢false (sym goes ∙ whole))
+      by_stage other here is goes = absurd (publishes_undone goes.0 is.0 rests)
 
   -- it rests where its negotiation asks for nothing and it isn't closed
   rests_here : bus_asks w ≡ bus_ask.Wait → (w.front.state ≡ state.Closed → ⊥) → w.front.stage ≡ stage.Rest

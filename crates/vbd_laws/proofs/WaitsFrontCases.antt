@@ -142,9 +142,6 @@ module _ (w : World) (c : Check) (k : Knows w c) where
   granting page s here is e = absurd is
 
   begun : (s : FrontBusStage) → FrontGoesWith s w.front r → front_view.is_broken r ≡ false → Only s
-  begun stage.Rest goes whole e = refl
-  begun stage.Closed goes whole e = refl
-  begun (stage.Broken word) goes whole e = refl
   begun stage.Start goes whole e = asks_on (front.key_ask bus_ask.Watch) refl e
   begun stage.ReadState goes whole e = asks_on (front.key_ask bus_ask.GetState) refl e
   begun (stage.ReadFeature key) goes whole e = asks_on (front.key_ask (bus_ask.GetKey key)) refl e
@@ -157,6 +154,7 @@ module _ (w : World) (c : Check) (k : Knows w c) where
   begun (stage.EndGrant page) goes whole e = elim goes.1 [ inl is ↦ ending page r refl is e | inr broken ↦ absurd (true≢false (sym broken ∙ whole)) ]
   begun stage.ClosePort goes whole e = moving bus_ask.ClosePort ring_stage.ClosePort goes.1 refl refl refl e
   begun stage.EndOtherGrants goes whole e = absurd goes
+  begun other goes whole e = refl
 
   pub rests_whole : w.front.stage ≡ stage.Rest → front_view.is_broken r ≡ false → FrontRests w.front.state w.front.gone w.front.port r
   rests_whole here whole =
@@ -287,9 +285,8 @@ module _ (w : World) (c : Check) (k : Knows w c) where
       by_ring : (s : FrontStage) → is_bare s ≡ true → front_view.is_broken s ≡ true → ⊥
       by_ring (ring_stage.Broken word) bare is = true≢false (sym bare)
       by_ring s bare is = true≢false (sym is)
-  broken_begun (stage.WriteState s) goes is = absurd goes
   broken_begun stage.ClosePort goes is = unlike r ring_stage.ClosePort goes.1 refl is
-  broken_begun stage.EndOtherGrants goes is = absurd goes
+  broken_begun other goes is = absurd goes
 
   pub broken_waits : front_view.is_broken r ≡ true → front.ask_at (bus_asks w) v ≡ front_ask.Wait
   broken_waits is = due_cases Broken w.front idle (broken_begun w.front.stage k.fit.front is) (λ here closing is_idle. let free = unoccupied w.rings.front is_idle in absurd (true≢false (sym is ∙ free.whole)))
@@ -301,12 +298,6 @@ module _ (w : World) (c : Check) (k : Knows w c) where
   closed_at (stage.Broken word) here goes whole own = absurd (true≢false (sym goes ∙ whole))
   closed_at stage.Rest here goes whole own = absurd (subst (λ (s : BusState). FrontRests s w.front.gone w.front.port r) own (rests_whole here whole))
   closed_at stage.ReadState here goes whole own = absurd (subst (λ (s : BusState). FrontRests s w.front.gone w.front.port r) own goes)
-  closed_at stage.Start here goes whole own = differs w.front.state state.Initialising own goes.0 refl
-  closed_at (stage.ReadFeature key) here goes whole own = differs w.front.state state.Initialising own goes.0 refl
-  closed_at (stage.RingWord word) here goes whole own = differs w.front.state state.Initialising own goes.0 refl
-  closed_at (stage.Grant page) here goes whole own = differs w.front.state state.Initialising own goes.0 refl
-  closed_at stage.NewPort here goes whole own = differs w.front.state state.Initialising own goes.0 refl
-  closed_at (stage.Publish key) here goes whole own = differs w.front.state state.Initialising own goes.0 refl
   closed_at (stage.ReadFact key) here goes whole own = differs w.front.state state.Initialised own goes.0 refl
   closed_at (stage.WriteState state.Initialised) here goes whole own = differs w.front.state state.Initialising own goes.0 refl
   closed_at (stage.WriteState state.Connected) here goes whole own = differs w.front.state state.Initialised own goes.0 refl
@@ -315,6 +306,7 @@ module _ (w : World) (c : Check) (k : Knows w c) where
   closed_at (stage.EndGrant page) here goes whole own = differs w.front.state state.Closing own goes.0 refl
   closed_at stage.ClosePort here goes whole own = differs w.front.state state.Closing own goes.0 refl
   closed_at stage.EndOtherGrants here goes whole own = absurd goes
+  closed_at other here goes whole own = differs w.front.state state.Initialising own goes.0 refl
 
   -- and one whose negotiation rests, where nothing is served
   unserved_at : (own : BusState) (gone : Bool) (port : Option ℕ) (s : FrontStage) → r ≡ s → w.front.state ≡ own → is_unserved own ≡ true → (own ≡ state.Closing → gone ≡ false) → FrontRests own gone port s → front.ask_at bus_ask.Wait v ≡ front_ask.Wait

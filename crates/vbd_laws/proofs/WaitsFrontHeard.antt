@@ -91,37 +91,16 @@ module _ (free : Type 0) where
   -- the back's state was read
   offered : (v : FrontView) (own : BusState) → v.state ≡ own → v.gone ≡ false → Hears (acted (on_offer own) v) (Read (Some state.InitWait))
   offered v state.Initialising own gone = (refl, gone)
-  offered v state.Unknown own gone = (gone, λ e. apart state.Unknown state.Initialising refl (sym own ∙ e))
-  offered v state.InitWait own gone = (gone, λ e. apart state.InitWait state.Initialising refl (sym own ∙ e))
-  offered v state.Initialised own gone = (gone, λ e. apart state.Initialised state.Initialising refl (sym own ∙ e))
-  offered v state.Connected own gone = (gone, λ e. apart state.Connected state.Initialising refl (sym own ∙ e))
-  offered v state.Closing own gone = (gone, λ e. apart state.Closing state.Initialising refl (sym own ∙ e))
-  offered v state.Closed own gone = (gone, λ e. apart state.Closed state.Initialising refl (sym own ∙ e))
-  offered v state.Reconfiguring own gone = (gone, λ e. apart state.Reconfiguring state.Initialising refl (sym own ∙ e))
-  offered v state.Reconfigured own gone = (gone, λ e. apart state.Reconfigured state.Initialising refl (sym own ∙ e))
+  offered v other own gone = (gone, λ e. apart other state.Initialising refl (sym own ∙ e))
 
   connected : (v : FrontView) (own : BusState) → v.state ≡ own → v.gone ≡ false → Hears (acted (on_connected own) v) (Read (Some state.Connected))
   connected v state.Initialised own gone = (inl refl, gone)
-  connected v state.Unknown own gone = (gone, λ e. apart state.Unknown state.Initialised refl (sym own ∙ e))
-  connected v state.InitWait own gone = (gone, λ e. apart state.InitWait state.Initialised refl (sym own ∙ e))
-  connected v state.Initialising own gone = (gone, λ e. apart state.Initialising state.Initialised refl (sym own ∙ e))
-  connected v state.Connected own gone = (gone, λ e. apart state.Connected state.Initialised refl (sym own ∙ e))
-  connected v state.Closing own gone = (gone, λ e. apart state.Closing state.Initialised refl (sym own ∙ e))
-  connected v state.Closed own gone = (gone, λ e. apart state.Closed state.Initialised refl (sym own ∙ e))
-  connected v state.Reconfiguring own gone = (gone, λ e. apart state.Reconfiguring state.Initialised refl (sym own ∙ e))
-  connected v state.Reconfigured own gone = (gone, λ e. apart state.Reconfigured state.Initialised refl (sym own ∙ e))
+  connected v other own gone = (gone, λ e. apart other state.Initialised refl (sym own ∙ e))
 
   closes : (v : FrontView) (own : BusState) (idle : Bool) → v.state ≡ own → v.gone ≡ false → (idle ≡ true → free) → Hears (acted (on_closing own idle) v) (Read (Some state.Closing))
   closes v state.Initialised false own gone is = (inr (refl, refl), gone)
   closes v state.Initialised true own gone is = (gone, refl, λ e. is refl)
-  closes v state.Unknown idle own gone is = (gone, refl, λ e. apart state.Unknown state.Initialised refl (sym own ∙ e))
-  closes v state.Initialising idle own gone is = (gone, refl, λ e. apart state.Initialising state.Initialised refl (sym own ∙ e))
-  closes v state.InitWait idle own gone is = (gone, refl, λ e. apart state.InitWait state.Initialised refl (sym own ∙ e))
-  closes v state.Connected idle own gone is = (gone, refl, λ e. apart state.Connected state.Initialised refl (sym own ∙ e))
-  closes v state.Closing idle own gone is = (gone, refl, λ e. apart state.Closing state.Initialised refl (sym own ∙ e))
-  closes v state.Closed idle own gone is = (gone, refl, λ e. apart state.Closed state.Initialised refl (sym own ∙ e))
-  closes v state.Reconfiguring idle own gone is = (gone, refl, λ e. apart state.Reconfiguring state.Initialised refl (sym own ∙ e))
-  closes v state.Reconfigured idle own gone is = (gone, refl, λ e. apart state.Reconfigured state.Initialised refl (sym own ∙ e))
+  closes v other idle own gone is = (gone, refl, λ e. apart other state.Initialised refl (sym own ∙ e))
 
   leaves : (v : FrontView) (idle : Bool) (word : ℕ) (s : BusState) → IsGone (Read (Some s)) → Hears (acted (on_gone idle word) v) (Read (Some s))
   leaves v true word state.Closed is = (refl, refl)
@@ -145,21 +124,13 @@ module _ (free : Type 0) where
   acted_hears v idle (Some state.Closing) gone is = closes v v.state idle refl gone is
   acted_hears v idle (Some state.Closed) gone is = leaves v idle 6 state.Closed tt
   acted_hears v idle (Some state.Unknown) gone is = leaves v idle 0 state.Unknown tt
-  acted_hears v idle (Some state.Reconfiguring) gone is = gone
-  acted_hears v idle (Some state.Reconfigured) gone is = gone
   acted_hears v idle None gone is = tt
+  acted_hears v idle (Some other) gone is = gone
 
   -- another key is none of a state
   unlike_state : (key : BackKey) → bytes_eq (path_under Back (back_name key)) front.other_state ≡ false
   unlike_state back_key.FeatureBarrier = refl
-  unlike_state back_key.FeatureFlushCache = refl
-  unlike_state back_key.FeatureDiscard = refl
-  unlike_state back_key.FeaturePersistent = refl
-  unlike_state back_key.FeatureMaxIndirectSegments = refl
-  unlike_state back_key.MaxRingPageOrder = refl
-  unlike_state back_key.Sectors = refl
-  unlike_state back_key.SectorSize = refl
-  unlike_state back_key.Info = refl
+  unlike_state other = refl
 
   key_heard : (key : BackKey) (text : Option (List ℕ)) (h : Heard) → front_hears (front.key_ask (bus_ask.GetKey key)) (answer.Key text) h ≡ h
   key_heard key text h = ap (λ (b : Bool). if b then Read (state_read text) else h) (unlike_state key)
@@ -213,18 +184,15 @@ module _ (free : Type 0) where
 
   -- and where it begins to close
   pub dealt_closing : (own : BusState) (closing gone : Bool) (h : Heard) → IsDealt own closing gone h → closing ≡ true → IsDealt state.Closing closing gone h
-  dealt_closing own closing gone Unwatched is e = absurd is
-  dealt_closing own closing gone Fired is e = absurd is
   dealt_closing own closing gone Watching is e = is
   dealt_closing own closing gone (Read None) is e = absurd is
   dealt_closing own closing gone (Read (Some state.InitWait)) is e = (is.0, λ own. apart state.Closing state.Initialising refl own)
   dealt_closing own closing gone (Read (Some state.Connected)) is e = (is.0, λ own. apart state.Closing state.Initialised refl own)
   dealt_closing own closing gone (Read (Some state.Closing)) is e = (is.0, is.1, λ own. apart state.Closing state.Initialised refl own)
   dealt_closing own closing gone (Read (Some s)) is e = is
+  dealt_closing own closing gone other is e = absurd is
 
   pub dealt_gone : (own : BusState) (closing gone : Bool) (h : Heard) → IsDealt own closing gone h → gone ≡ true → IsGone h
-  dealt_gone own closing gone Unwatched is e = is
-  dealt_gone own closing gone Fired is e = is
   dealt_gone own closing gone Watching is e = true≢false (sym e ∙ is)
   dealt_gone own closing gone (Read None) is e = is
   dealt_gone own closing gone (Read (Some state.Closed)) is e = tt
@@ -233,12 +201,10 @@ module _ (free : Type 0) where
   dealt_gone own closing gone (Read (Some state.InitWait)) is e = true≢false (sym e ∙ is.0)
   dealt_gone own closing gone (Read (Some state.Connected)) is e = true≢false (sym e ∙ is.0)
   dealt_gone own closing gone (Read (Some s)) is e = true≢false (sym e ∙ is)
+  dealt_gone own closing gone other is e = is
 
   -- it was asked to close
   dealt_closed : (own : BusState) (closing gone : Bool) (h : Heard) → IsDealt own closing gone h → IsDealt own true gone h
-  dealt_closed own closing gone Unwatched is = is
-  dealt_closed own closing gone Fired is = is
-  dealt_closed own closing gone Watching is = is
   dealt_closed own closing gone (Read None) is = is
   dealt_closed own closing gone (Read (Some state.Closed)) is = (is.0, refl)
   dealt_closed own closing gone (Read (Some state.Unknown)) is = (is.0, refl)
@@ -246,6 +212,7 @@ module _ (free : Type 0) where
   dealt_closed own closing gone (Read (Some state.InitWait)) is = (is.0, λ own. (refl, (is.1 own).1))
   dealt_closed own closing gone (Read (Some state.Connected)) is = (is.0, λ own. (refl, (is.1 own).1))
   dealt_closed own closing gone (Read (Some s)) is = is
+  dealt_closed own closing gone other is = is
 
   connects_closed : (closing gone : Bool) (h : Heard) → Connects closing gone h → Connects true gone h
   connects_closed closing gone h is = (elim is.0 [ inl e ↦ inl e | inr e ↦ inr (e.0, refl) ], is.1)
@@ -283,14 +250,12 @@ module _ (free : Type 0) where
 
 -- what was left no more isn't left
 dealt_as : (P Q : Type 0) (own : BusState) (closing gone : Bool) (h : Heard) → (closing ≡ true → P → Q) → IsDealt P own closing gone h → IsDealt Q own closing gone h
-dealt_as P Q own closing gone Unwatched into is = is
-dealt_as P Q own closing gone Fired into is = is
-dealt_as P Q own closing gone Watching into is = is
 dealt_as P Q own closing gone (Read None) into is = is
 dealt_as P Q own closing gone (Read (Some state.Closing)) into is = (is.0, is.1, λ e. into is.1 (is.2 e))
 dealt_as P Q own closing gone (Read (Some state.InitWait)) into is = (is.0, λ e. let both = is.1 e in (both.0, into both.0 both.1))
 dealt_as P Q own closing gone (Read (Some state.Connected)) into is = (is.0, λ e. let both = is.1 e in (both.0, into both.0 both.1))
 dealt_as P Q own closing gone (Read (Some s)) into is = is
+dealt_as P Q own closing gone other into is = is
 
 pub hears_as : (P Q : Type 0) (s : FrontBusStage) (own : BusState) (closing gone : Bool) (h : Heard) → (closing ≡ true → P → Q) → HearsAt P s own closing gone h → HearsAt Q s own closing gone h
 hears_as P Q stage.Rest own closing gone h into is = dealt_as P Q own closing gone h into is

@@ -101,11 +101,7 @@ ring_heard a x h none allowed = absurd allowed
 
 wait_heard : (x : FrontAnswer) (h : Heard) → front_hears front_ask.Wait x h ≡ heard_waiting x h
 wait_heard (answer.Watched path) h = refl
-wait_heard answer.Event h = refl
-wait_heard answer.Done h = refl
-wait_heard (answer.Word word) h = refl
-wait_heard (answer.Port port) h = refl
-wait_heard (answer.Key text) h = refl
+wait_heard other h = refl
 
 -- where it isn't a wait no watch is taken
 unwatched : (a : FrontAsk) (x : FrontAnswer) (h : Heard) → (a ≡ front_ask.Wait → ⊥) → front_ring.IsAnswer a x → heard_waiting x h ≡ h
@@ -181,15 +177,7 @@ module _ (w : World) (c : Check) (h : Heard) (k : Knows w c) (l : Listens w.fron
       by_stage stage.Rest here is goes =
           let e = rests_due w.front idle true here (l.leaves whole gone early) in
           true≢false (sym (ap (λ (d : FrontBusStage). front.speaks (bus.ask_at d w.front)) e ∙ closes w.front.state early) ∙ quiet)
-      by_stage stage.Start here is goes = true≢false (sym gone ∙ is.1)
-      by_stage stage.ReadState here is goes = true≢false (sym gone ∙ is.1)
-      by_stage (stage.ReadFeature key) here is goes = true≢false (sym gone ∙ is.1)
-      by_stage (stage.RingWord word) here is goes = true≢false (sym gone ∙ is.1)
-      by_stage (stage.Grant page) here is goes = true≢false (sym gone ∙ is.1)
-      by_stage stage.NewPort here is goes = true≢false (sym gone ∙ is.1)
-      by_stage (stage.Publish key) here is goes = true≢false (sym gone ∙ is.1)
       by_stage (stage.WriteState state.Initialised) here is goes = true≢false (sym gone ∙ is.1)
-      by_stage (stage.ReadFact key) here is goes = true≢false (sym gone ∙ is.1)
       by_stage (stage.WriteState state.Connected) here is goes = true≢false (sym gone ∙ is.1)
       by_stage (stage.WriteState state.Closed) here is goes = late state.Closing goes.0 refl
       by_stage (stage.WriteState s) here is goes = goes
@@ -198,6 +186,7 @@ module _ (w : World) (c : Check) (h : Heard) (k : Knows w c) (l : Listens w.fron
       by_stage stage.ClosePort here is goes = late state.Closing goes.0 refl
       by_stage stage.Closed here is goes = late state.Closed goes.0 refl
       by_stage (stage.Broken word) here is goes = true≢false (sym goes ∙ whole)
+      by_stage other here is goes = true≢false (sym gone ∙ is.1)
 
   -- what its negotiation is told, and its end of the ring after it
   abbrev f_after : FrontView → Option FrontNews → ends.View
@@ -238,12 +227,7 @@ module _ (w : World) (c : Check) (h : Heard) (k : Knows w c) (l : Listens w.fron
   acted_ends : (act : FrontAction) → LeavesIdle idle act → w.front.gone ≡ false
       → let u = acted act (at stage.ReadState w.front) in u.gone ≡ true → is_early u.state ≡ true → ((settled idle u).closing && front_view.is_unoccupied (f_after u (action_news act w.front.closing))) ≡ true
   acted_ends action.Leave leaves was gone early = leaves_so (acted action.Leave (at stage.ReadState w.front)) w.front.closing refl refl leaves early
-  acted_ends action.Nothing leaves was gone early = absurd (true≢false (sym gone ∙ was))
-  acted_ends action.Publish leaves was gone early = absurd (true≢false (sym gone ∙ was))
-  acted_ends action.Connect leaves was gone early = absurd (true≢false (sym gone ∙ was))
-  acted_ends action.Close leaves was gone early = absurd (true≢false (sym gone ∙ was))
-  acted_ends action.CloseAndConnect leaves was gone early = absurd (true≢false (sym gone ∙ was))
-  acted_ends (action.Break word) leaves was gone early = absurd (true≢false (sym gone ∙ was))
+  acted_ends other leaves was gone early = absurd (true≢false (sym gone ∙ was))
 
   feature_gone : (key : BackKey) (n : Option ℕ) (v : FrontView) → (feature_step key n v).gone ≡ v.gone
   feature_gone key None v = refl

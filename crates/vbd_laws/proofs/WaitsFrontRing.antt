@@ -58,7 +58,6 @@ others_unfenced c = refl
 
 pub fences_sleep : (c : Check) → sleeps (fences c) ≡ sleeps c
 fences_sleep Stored = refl
-fences_sleep Asleep = refl
 fences_sleep c = refl
 
 pub writes_sleep : (event : Bool) (c : Check) → sleeps (writes event c) ≡ sleeps c
@@ -391,9 +390,7 @@ stands_enters s v c is = enters_cases (λ (x : View) shown. Stands x c) s v (by_
     by_state (enter.Agreed order) may = agrees_at v.stage v (in_state (enter.Agreed order) v) c (both_true (is_unmade v.stage) (nat_le order v.shape.order) (both_true _ _ may).0).0 refl is
     by_state (enter.Connected offers) may = (connects_at v.stage v c may is, tt)
     by_state enter.Closing may = closing_at v.stage v c is
-    by_state enter.Leaving may = (tt, tt)
-    by_state enter.Closed may = (tt, tt)
-    by_state (enter.Broken word) may = (tt, tt)
+    by_state other may = (tt, tt)
 
 -- a submission
 next_kept : (v : View) (wish : Wish) (frames : List ℕ × List Bool) → IsSome (next_request v) → IsSome (next_request (accepted v wish frames))

@@ -1,5 +1,5 @@
 -- What an answer makes of the front's negotiation goes with what that hears.
-use Rattle.std.proofs.Common.{inl, inr, ◌≡◌, ◌∙◌, ap, sym, subst, refl, ℕ, ◌+◌, Bool, true, false, true≢false, if◌then◌else◌, List}
+use Rattle.std.proofs.Common.{inl, inr, ◌≡◌, ◌∙◌, ap, sym, subst, refl, ℕ, ◌+◌, Bool, true, false, true≢false, List}
 use Rattle.std.specs.Prelude.{Option, Some, None, nat_lt, ◌==◌}
 use Rattle.blk_base.specs.declared.ask.FrontAnswer.{FrontAnswer}
 use Rattle.blk_base.specs.declared.ask.FrontAnswer.TheVariants as answer
@@ -18,6 +18,7 @@ use Rattle.vbd_front.specs.Ask as front
 use Rattle.vbd_front.specs.Step as front_step
 use Rattle.vbd_front.specs.Step.{settled_at, settled}
 use Rattle.vbd_model.specs.Fit.{FrontGoesWith}
+use Rattle.negotiation_laws.proofs.Choices.{either}
 use Rattle.vbd_laws.specs.Waits.{Heard, Fired, front_hears}
 use Rattle.vbd_laws.proofs.FitFrontBus.{due_cases}
 use Rattle.vbd_laws.proofs.WaitsFront.{bus_asks_on, BusWaits, bus_waits}
@@ -61,19 +62,15 @@ module _ (free : Type 0) where
       by_state state.Closing here closing = by_port v.gone v.port
       by_state own here closing = λ says allowed. writes here closing a allowed
 
-  either_at : (b : Bool) (x y : FrontBusStage) (own : BusState) (closing gone : Bool) (h : Heard) → HearsAt free x own closing gone h → HearsAt free y own closing gone h → HearsAt free (if b then x else y) own closing gone h
-  either_at true x y own closing gone h p q = p
-  either_at false x y own closing gone h p q = q
-
   makes_hears : (s : FrontBusStage) (v : FrontView) (idle : Bool) (h : Heard) (a : FrontAnswer) → makes s ≡ true → HearsAt free s v.state v.closing v.gone h → Hears free (step_at s (at s v) idle a) h
-  makes_hears (stage.RingWord word) v idle h answer.Done is there = either_at (word == 15) (stage.Grant 0) (stage.RingWord (word + 1)) v.state v.closing v.gone h there there
+  makes_hears (stage.RingWord word) v idle h answer.Done is there = either (λ (one : FrontBusStage). HearsAt free one v.state v.closing v.gone h) (word == 15) (stage.Grant 0) (stage.RingWord (word + 1)) there there
   makes_hears (stage.RingWord word) v idle h a is there = there
-  makes_hears (stage.Grant page) v idle h answer.Done is there = either_at (nat_lt (page + 1) (pages_of v)) (stage.Grant (page + 1)) stage.NewPort v.state v.closing v.gone h there there
+  makes_hears (stage.Grant page) v idle h answer.Done is there = either (λ (one : FrontBusStage). HearsAt free one v.state v.closing v.gone h) (nat_lt (page + 1) (pages_of v)) (stage.Grant (page + 1)) stage.NewPort there there
   makes_hears (stage.Grant page) v idle h a is there = there
   makes_hears stage.NewPort v idle h (answer.Port port) is there = there
   makes_hears stage.NewPort v idle h answer.Done is there = there
   makes_hears stage.NewPort v idle h a is there = there
-  makes_hears (stage.EndGrant page) v idle h answer.Done is there = either_at (nat_lt (page + 1) (pages_of v)) (stage.EndGrant (page + 1)) stage.EndOtherGrants v.state v.closing v.gone h there there
+  makes_hears (stage.EndGrant page) v idle h answer.Done is there = either (λ (one : FrontBusStage). HearsAt free one v.state v.closing v.gone h) (nat_lt (page + 1) (pages_of v)) (stage.EndGrant (page + 1)) stage.EndOtherGrants there there
   makes_hears (stage.EndGrant page) v idle h a is there = there
   makes_hears stage.ClosePort v idle h answer.Done is there = there
   makes_hears stage.ClosePort v idle h a is there = there
@@ -111,12 +108,7 @@ module _ (free : Type 0) where
       begun stage.Rest there e quiet on = absurd (true≢false on)
       begun stage.Closed there e quiet on = absurd (true≢false on)
       begun (stage.Broken word) there e quiet on = absurd (true≢false on)
-      begun stage.Start there e quiet on = absurd (true≢false quiet)
-      begun stage.ReadState there e quiet on = absurd (true≢false quiet)
-      begun (stage.ReadFeature key) there e quiet on = absurd (true≢false quiet)
-      begun (stage.Publish key) there e quiet on = absurd (true≢false quiet)
-      begun (stage.ReadFact key) there e quiet on = absurd (true≢false quiet)
-      begun (stage.WriteState s) there e quiet on = absurd (true≢false quiet)
+      begun other there e quiet on = absurd (true≢false quiet)
 
       by_port : (gone : Bool) (port : Option ℕ) → v.stage ≡ stage.Rest → v.gone ≡ gone → Follows later idle v a h (bus.leaving gone port)
       by_port false port here g e quiet on = absurd (true≢false on)
@@ -129,8 +121,6 @@ module _ (free : Type 0) where
 
   waits_at : (d : FrontBusStage) (v : FrontView) (idle : Bool) (path : List ℕ) → bus.ask_at d v ≡ bus_ask.Wait → v.gone ≡ false → Hears free (step_at d (at d v) idle (answer.Watched path)) Fired
   waits_at stage.Rest v idle path e gone = (refl, gone)
-  waits_at stage.Closed v idle path e gone = tt
-  waits_at (stage.Broken word) v idle path e gone = tt
   waits_at stage.Start v idle path e gone = bus_asks_on bus_ask.Watch refl e
   waits_at stage.ReadState v idle path e gone = bus_asks_on bus_ask.GetState refl e
   waits_at (stage.ReadFeature key) v idle path e gone = bus_asks_on (bus_ask.GetKey key) refl e
@@ -143,6 +133,7 @@ module _ (free : Type 0) where
   waits_at (stage.EndGrant page) v idle path e gone = bus_asks_on (bus_ask.EndGrant page) refl e
   waits_at stage.EndOtherGrants v idle path e gone = bus_asks_on bus_ask.EndOtherGrants refl e
   waits_at stage.ClosePort v idle path e gone = bus_asks_on bus_ask.ClosePort refl e
+  waits_at other v idle path e gone = tt
 
   pub woken_hears : (broken idle : Bool) (v : FrontView) (h : Heard) (a : FrontAnswer) → broken ≡ false → Hears free v h → bus.ask_of v idle ≡ bus_ask.Wait → (v.stage ≡ stage.Rest → v.gone ≡ false) → Hears free (front_step.woken broken idle v a) (heard_waiting a h)
   woken_hears true idle v h a whole is e gone = absurd (true≢false whole)
@@ -156,10 +147,7 @@ module _ (free : Type 0) where
       by_bus (inr (inl here)) = over stage.Closed here refl tt
       by_bus (inr (inr found)) = over (stage.Broken found.0) found.1 refl tt
   woken_hears false idle v h answer.Event whole is e gone = is
-  woken_hears false idle v h answer.Done whole is e gone = is
-  woken_hears false idle v h (answer.Word word) whole is e gone = is
-  woken_hears false idle v h (answer.Port port) whole is e gone = is
-  woken_hears false idle v h (answer.Key text) whole is e gone = is
+  woken_hears false idle v h other whole is e gone = is
 
 -- and it leaves what the negotiation wrote, whether it closes and whether the back is gone
 abbrev pub IsKept : FrontView → FrontView → Type 0
@@ -247,10 +235,6 @@ woken_kept false idle v (answer.Watched path) e = kept_after v (step_of v idle (
   where
     by_due : (d : FrontBusStage) → bus.ask_at d v ≡ bus_ask.Wait → IsKept v (step_at d (at d v) idle (answer.Watched path))
     by_due stage.Rest e = (refl, refl, refl)
-    by_due (stage.ReadFeature key) e = (refl, refl, refl)
     by_due s e = (refl, refl, refl)
 woken_kept false idle v answer.Event e = (refl, refl, refl)
-woken_kept false idle v answer.Done e = (refl, refl, refl)
-woken_kept false idle v (answer.Word word) e = (refl, refl, refl)
-woken_kept false idle v (answer.Port port) e = (refl, refl, refl)
-woken_kept false idle v (answer.Key text) e = (refl, refl, refl)
+woken_kept false idle v other e = (refl, refl, refl)

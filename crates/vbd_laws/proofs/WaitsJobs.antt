@@ -35,6 +35,7 @@ use Rattle.back_jobs.specs.Work.{Work, passes, judged, page_done, copied, is_cop
 use Rattle.back_jobs.specs.Jobs.{HeldJobs, mapping_at, work_at, work_of, place_of, told_at, complete_job, start_job, removed_at, without_done, after_mapping, is_done, is_done_at}
 use Rattle.blk_back.specs.Ask.{is_wait}
 use Rattle.back_jobs.proofs.Served.{transfer_kind}
+use Rattle.negotiation_laws.proofs.Choices.{either}
 
 -- so many pages name the segments that are left, from the page of the next one on
 abbrev Names : (left pages named : ℕ) → Type 0
@@ -52,23 +53,19 @@ IsSuppliedAt s t = Unit {0}
 abbrev pub IsSupplied : Work → Type 0
 IsSupplied t = IsSuppliedAt t.stage t
 
-either : (b : Bool) (x y : Work) → IsSupplied x → IsSupplied y → IsSupplied (if b then x else y)
-either true x y p q = p
-either false x y p q = q
-
 free_stage : (writes : Bool) (m : Mapping) (t : Work) → IsSuppliedAt (sector_stage writes m) t
 free_stage true m t = tt
 free_stage false m t = tt
 
 sector_supplied : (t : Work) (m : Mapping) → IsSupplied (next_sector t m)
-sector_supplied t m = either (t.within == last_of t.rest) (record t { stage = stage.Unmap m }) (record t { within = t.within + 1; stage = sector_stage t.writes m }) tt (free_stage t.writes m (record t { within = t.within + 1; stage = sector_stage t.writes m }))
+sector_supplied t m = either IsSupplied (t.within == last_of t.rest) (record t { stage = stage.Unmap m }) (record t { within = t.within + 1; stage = sector_stage t.writes m }) tt (free_stage t.writes m (record t { within = t.within + 1; stage = sector_stage t.writes m }))
 
 segment_supplied : (t : Work) (rest : List Segment) → IsSupplied (next_segment t rest)
 segment_supplied t [] = tt
 segment_supplied t (s ∷ rest) = omega arith
 
 judged_supplied : (t : Work) → 0 < length t.rest → IsSupplied (judged t)
-judged_supplied t some = either (passes t) (record t { within = first_of t.rest; stage = stage.Map }) (record t { stage = stage.Done Error }) some tt
+judged_supplied t some = either IsSupplied (passes t) (record t { within = first_of t.rest; stage = stage.Map }) (record t { stage = stage.Done Error }) some tt
 
 page_supplied : (t : Work) → 0 < t.named → (length t.rest ≢ t.named → Names (length t.rest) (length t.pages - 1) t.named) → IsSupplied (page_done t)
 page_supplied t some names = by_test (length t.rest == t.named) refl
@@ -120,7 +117,7 @@ supplied_at (stage.DiskWrite m) t answer.Done here is = sector_supplied (counted
 supplied_at (stage.DiskWrite m) t answer.DiskFailed here is = tt
 supplied_at (stage.DiskRead m) t (answer.Sector words) here is = tt
 supplied_at (stage.DiskRead m) t answer.DiskFailed here is = tt
-supplied_at (stage.WriteWord m k) t answer.Done here is = either (k == 127) (next_sector t m) (record t { stage = stage.WriteWord m (k + 1) }) (sector_supplied t m) tt
+supplied_at (stage.WriteWord m k) t answer.Done here is = either IsSupplied (k == 127) (next_sector t m) (record t { stage = stage.WriteWord m (k + 1) }) (sector_supplied t m) tt
 supplied_at (stage.Unmap m) t answer.Done here is = segment_supplied t (rest_of t.rest)
 supplied_at (stage.Abort m) t answer.Done here is = tt
 supplied_at stage.Flush t answer.Done here is = tt
@@ -148,10 +145,6 @@ IsWhole (Direct op count device id sector segments) = length segments ≡ 11
 IsWhole (Discard flag device id sector count) = Unit {0}
 IsWhole (Indirect op count device id sector pages) = length pages ≡ 8
 
-either_whole : (b : Bool) (x y : RawRequest) → IsWhole x → IsWhole y → IsWhole (if b then x else y)
-either_whole true x y p q = p
-either_whole false x y p q = q
-
 read_whole : (abi : Abi) (words : List ℕ) → IsWhole (request_of abi words)
 unfolding request_of
 read_whole abi words =
@@ -163,8 +156,8 @@ read_whole abi words =
     let sector : ℕ = double_at words at.sector in
     let indirect : RawRequest = Indirect second third (slice_index words at.indirect_device % 2 ^ 16) id sector (pages_at words at.pages 8) in
     let direct : RawRequest = Direct op second third id sector (segments_at words at.segments 11) in
-    either_whole (op == 5) (Discard second third id sector (double_at words at.discard_count)) (if op == 6 then indirect else direct) tt
-    (either_whole (op == 6) indirect direct (pages_long words at.pages 8) (segments_long words at.segments 11))
+    either IsWhole (op == 5) (Discard second third id sector (double_at words at.discard_count)) (if op == 6 then indirect else direct) tt
+    (either IsWhole (op == 6) indirect direct (pages_long words at.pages 8) (segments_long words at.segments 11))
 
 -- an INDIRECT that is served has a segment
 abbrev is_served : Verdict → Bool
@@ -218,15 +211,14 @@ direct_supplied number size op count device id sector segments info plan long e 
     by_test : (b : Bool) → nat_le op 2 ≡ b
         → IsSupplied (if b then moving number request size (not (op == 0)) sector (take count segments) else (if op == 3 then frameless number request size sector stage.Flush else ended number request size (stage.Done Error)))
     by_test true few = moved few
-    by_test false many = either (op == 3) (frameless number request size sector stage.Flush) (ended number request size (stage.Done Error)) tt tt
+    by_test false many = either IsSupplied (op == 3) (frameless number request size sector stage.Flush) (ended number request size (stage.Done Error)) tt tt
 
 begun_supplied : (number size : ℕ) (request : RawRequest) (info : DiskInfo) (v : Verdict) → verdict_of request info ≡ v → IsWhole request → IsSupplied (begun number request size v)
 begun_supplied number size (Direct op count device id sector segments) info (verdict.Serve plan) e whole = direct_supplied number size op count device id sector segments info plan whole e
 begun_supplied number size (Discard flag device id sector count) info (verdict.Serve plan) e whole = tt
 begun_supplied number size (Indirect op count device id sector pages) info (verdict.Serve plan) e whole =
     paging_supplied number size op count sector (Indirect op count device id sector pages) pages (indirect_counts op count sector info plan e) whole
-begun_supplied number size request info (verdict.Error reason) e whole = tt
-begun_supplied number size request info verdict.Unsupported e whole = tt
+begun_supplied number size request info other e whole = tt
 
 -- the jobs that the back holds
 abbrev pub AreSupplied : List Work → Type 0

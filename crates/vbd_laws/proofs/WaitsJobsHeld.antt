@@ -35,6 +35,7 @@ use Rattle.vbd_back.specs.Step as back_step
 use Rattle.vbd_model.specs.World.{World, start_of, backend_of}
 use Rattle.vbd_model.specs.Happening.{Happening, FrontMoves, BackMoves, JobMoves, Closes, Suspends, front_turn, back_turn, back_does, happens, after}
 use Rattle.vbd_model.specs.Fit.{IsFit}
+use Rattle.negotiation_laws.proofs.Choices.{either}
 use Rattle.vbd_laws.specs.Waits.{IsOver, JobMayWait, JobWaits}
 use Rattle.vbd_laws.proofs.Fit.{fit_start, fit_happens}
 use Rattle.vbd_laws.proofs.MovesTurns.{back_asks, back_cases}
@@ -45,26 +46,22 @@ use Rattle.vbd_laws.proofs.WaitsJobs.{IsSupplied, AreSupplied, supplied_started,
 abbrev Supplies : ends.View → Type 0
 Supplies v = AreSupplied v.jobs.works
 
-either : (b : Bool) (x y : ends.View) → Supplies x → Supplies y → Supplies (if b then x else y)
-either true x y p q = p
-either false x y p q = q
-
 looked_supplies : (v : ends.View) (word : ℕ) (otherwise : ends.View) → Supplies v → Supplies otherwise → Supplies (looked v word otherwise)
 looked_supplies v word otherwise all h =
-    either (overruns v.ring.indices word) (overrun v word) (if word == v.ring.indices.cons then otherwise else record v { ring = record v.ring { seen = word }; stage = stage.Loop }) (supplied_after v.jobs.works all)
-    (either (word == v.ring.indices.cons) otherwise (record v { ring = record v.ring { seen = word }; stage = stage.Loop }) h all)
+    either Supplies (overruns v.ring.indices word) (overrun v word) (if word == v.ring.indices.cons then otherwise else record v { ring = record v.ring { seen = word }; stage = stage.Loop }) (supplied_after v.jobs.works all)
+    (either Supplies (word == v.ring.indices.cons) otherwise (record v { ring = record v.ring { seen = word }; stage = stage.Loop }) h all)
 
 loop_supplies : (v : ends.View) (r : Option Reply) (x : BackAnswer) → Supplies v → Supplies (loop_step v r x)
 loop_supplies v (Some r) x all = supplied_without v.jobs all
 loop_supplies v None (answer.Word word) all =
-    either (requests_of v.ring.indices v.ring.seen == 0) (looked v word (record v { ring = record v.ring { seen = word }; stage = stage.StoreEvent })) (record v { ring = record v.ring { entry = word ∷ [] }; stage = stage.Fetch 1 })
+    either Supplies (requests_of v.ring.indices v.ring.seen == 0) (looked v word (record v { ring = record v.ring { seen = word }; stage = stage.StoreEvent })) (record v { ring = record v.ring { entry = word ∷ [] }; stage = stage.Fetch 1 })
     (looked_supplies v word (record v { ring = record v.ring { seen = word }; stage = stage.StoreEvent }) all all) all
 loop_supplies v None answer.Event all = all
 loop_supplies v None x all = all
 
 fetch_supplies : (v : ends.View) (k word : ℕ) → Supplies v → Supplies (fetch_step v k word)
 fetch_supplies v k word all =
-    either (k + 1 == entry_words_of v.shape.abi) (fetched v (v.ring.entry ++ word ∷ [])) (record v { ring = record v.ring { entry = v.ring.entry ++ word ∷ [] }; stage = stage.Fetch (k + 1) })
+    either Supplies (k + 1 == entry_words_of v.shape.abi) (fetched v (v.ring.entry ++ word ∷ [])) (record v { ring = record v.ring { entry = v.ring.entry ++ word ∷ [] }; stage = stage.Fetch (k + 1) })
     (supplied_started v.jobs (next_number v) v.shape.abi (v.ring.entry ++ word ∷ []) all) all
 
 -- a move of the ring's end
@@ -86,7 +83,7 @@ halts_supplies why v all = halts_cases Supplies why v (λ early. all) (λ here. 
 
 led : (why : Option BackHalt) (reads : Bool) (b : BackView) (r : ends.View) → Supplies r → Supplies (back_step.ring_led why reads b r)
 led (Some why) reads b r all = halts_supplies (back_step.ring_halt why) r all
-led None true b r all = either (may_attach (back_step.shape_read b) b.grefs r) (attached (back_step.shape_read b) b.grefs b.terms.port r) r all all
+led None true b r all = either Supplies (may_attach (back_step.shape_read b) b.grefs r) (attached (back_step.shape_read b) b.grefs b.terms.port r) r all all
 led None false b r all = all
 
 abbrev Goes : World → BackAct → List ring.Happening → BackAsk → (BackAnswer → back_view.View) → Type 0
