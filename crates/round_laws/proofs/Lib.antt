@@ -1,0 +1,16 @@
+pub mod Frames
+pub mod JobWords
+pub mod FrontWords
+pub mod Passing
+pub mod Waits
+pub mod Jobs
+pub mod Pass
+pub mod Alike
+pub mod Rounds
+pub mod Unseen
+pub mod Visiting
+pub mod Telling
+pub mod Asking
+pub mod Called
+pub mod Moving
+pub mod Ending

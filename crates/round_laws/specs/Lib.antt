@@ -1,0 +1,4 @@
+pub mod Movers
+pub mod AtOnce
+pub mod Laws
+pub mod Calls

@@ -1,0 +1,108 @@
+-- Those that move the words of a sector, one in each round: the front and the jobs. What each is answered to so many words, and which of them it writes.
+use Rattle.std.specs.Prelude.{◌≡◌, ◌≢◌, ℕ, ◌+◌, ◌<◌, ◌≤◌, Bool, true, false, List, [], ◌∷◌, length, take, replicate, Option, Some, None, IfSome}
+use Rattle.std.specs.List.{AllByRecursion}
+use Rattle.blk_base.specs.declared.ask.FrontAnswer.{FrontAnswer}
+use Rattle.blk_base.specs.declared.ask.BackAnswer.{BackAnswer}
+use Rattle.blk_base.specs.declared.ask.BackAsk.TheVariants.{Wait}
+use Rattle.blk_base.specs.declared.parts.End.TheVariants as end
+use Rattle.xen_pages.specs.Pages.{words_of, with_words}
+use Rattle.grant_table.specs.Table.{frame_of}
+use Rattle.hypervisor.specs.Hypervisor.{Hypervisor}
+use Rattle.hypervisor.specs.Act.{has_to_take}
+use Rattle.blk_front.specs.declared.sector_part.SectorPart.{SectorPart as FrontPart}
+use Rattle.blk_front.specs.Part.{all_written, all_read}
+use Rattle.back_jobs.specs.declared.part.SectorPart.{SectorPart as JobPart}
+use Rattle.back_jobs.specs.Work.{Work}
+use Rattle.back_jobs.specs.Part.{part_at, values_at, words_read, words_written, steps_of}
+use Rattle.blk_back.specs.View as back_ring
+use Rattle.blk_back.specs.Step.{job_ask_of, next_job_of}
+use Rattle.blk_back.specs.Part.{job_values}
+use Rattle.vbd_front.specs.View.{IsUnkept}
+use Rattle.vbd_front.specs.Ask.{is_waiting}
+use Rattle.vbd_model.specs.World.{World, frontend_of}
+
+-- the front is answered what memory holds of the words that it reads, or that they are written
+abbrev pub front_answers_to : FrontPart → Option ℕ → (pages : List ℕ) → (n : ℕ) → List FrontAnswer
+front_answers_to p (Some value) pages n = all_written n
+front_answers_to p None pages n = all_read (words_of pages p.frame p.word n)
+
+abbrev pub front_answers : Option FrontPart → (pages : List ℕ) → (n : ℕ) → List FrontAnswer
+front_answers None pages n = []
+front_answers (Some p) pages n = front_answers_to p p.value pages n
+
+-- and this is memory with those that it writes
+abbrev pub front_writes_to : FrontPart → Option ℕ → (n : ℕ) → List ℕ → List ℕ
+front_writes_to p (Some value) n pages = with_words pages p.frame p.word (replicate n value)
+front_writes_to p None n pages = pages
+
+abbrev pub front_writes : Option FrontPart → (n : ℕ) → List ℕ → List ℕ
+front_writes None n pages = pages
+front_writes (Some p) n pages = front_writes_to p p.value n pages
+
+-- the words that a job moves, and the frame that they are of
+abbrev pub part_of : Work → Option JobPart
+part_of t = part_at t.stage t
+
+abbrev pub frame_under : Hypervisor → JobPart → ℕ
+frame_under h p = frame_of h.grants p.mapping
+
+-- so a job is answered
+abbrev pub job_answers_to : Hypervisor → JobPart → (writes : Bool) → (n : ℕ) → List BackAnswer
+job_answers_to h p true n = words_written n
+job_answers_to h p false n = words_read (words_of h.pages (frame_under h p) p.word n)
+
+abbrev pub job_answers : Hypervisor → Option JobPart → (n : ℕ) → List BackAnswer
+job_answers h None n = []
+job_answers h (Some p) n = job_answers_to h p p.writes n
+
+-- what so many of its words make of it
+abbrev pub job_moved : Hypervisor → (n : ℕ) → Work → Work
+job_moved h n t = steps_of t (job_answers h (part_of t) n)
+
+-- and of memory
+abbrev pub job_writes_to : Hypervisor → JobPart → (writes : Bool) → (values : List ℕ) → (n : ℕ) → List ℕ → List ℕ
+job_writes_to h p true values n pages = with_words pages (frame_under h p) p.word (take n values)
+job_writes_to h p false values n pages = pages
+
+abbrev pub job_writes : Hypervisor → Option JobPart → (values : List ℕ) → (n : ℕ) → List ℕ → List ℕ
+job_writes h None values n pages = pages
+job_writes h (Some p) values n pages = job_writes_to h p p.writes values n pages
+
+-- so many words of each job
+abbrev pub jobs_write : Hypervisor → (n : ℕ) → List Work → List ℕ → List ℕ
+jobs_write h n [] pages = pages
+jobs_write h n (t ∷ works) pages = jobs_write h n works (job_writes h (part_of t) (values_at t.stage t.words) n pages)
+
+-- the front is in the middle of a sector's words with more than n left, and keeps no grants; or it waits, and neither an event nor a watch is pending there
+abbrev pub FrontGoesOn : ℕ → World → Option FrontPart → Type 0
+FrontGoesOn n w (Some p) = (n < p.count) × (p.word + p.count ≤ 1024) × IsUnkept w.rings.front
+FrontGoesOn n w None = (is_waiting (frontend_of w) ≡ true) × (has_to_take w.rings.under end.Front ≡ false)
+
+-- a job is in the middle of a sector's words with more than n left, and has those that it is to write; or it waits
+abbrev pub JobGoesOn : ℕ → back_ring.View → Work → Option JobPart → Type 0
+JobGoesOn n v t (Some p) = (n < p.count) × (p.word + p.count ≤ 1024) × (p.writes ≡ true → p.count ≤ length (values_at t.stage t.words))
+JobGoesOn n v t None = job_ask_of v t.number ≡ Wait
+
+-- none of these jobs moves words of this frame
+abbrev pub IsOutside : Hypervisor → (frame : ℕ) → List Work → Type 0
+IsOutside h frame works = AllByRecursion (λ (t : Work). IfSome (part_of t) (λ p. frame_under h p ≢ frame)) works
+
+-- no two of them move words of one frame
+abbrev pub AreApart : Hypervisor → List Work → Type 0
+AreApart h [] = Unit {0}
+AreApart h (t ∷ works) = IfSome (part_of t) (λ p. IsOutside h (frame_under h p) works) × AreApart h works
+
+-- each number is above that of the job before it, and the first above this one
+abbrev pub AreAbove : ℕ → List Work → Type 0
+AreAbove number [] = Unit {0}
+AreAbove number (t ∷ works) = (number < t.number) × AreAbove t.number works
+
+-- the jobs of these numbers come one after another from this number on, and after them none
+abbrev pub AreVisited : back_ring.View → (from : ℕ) → (numbers : List ℕ) → Type 0
+AreVisited v from [] = next_job_of v from ≡ None
+AreVisited v from (k ∷ numbers) = (next_job_of v from ≡ Some k) × AreVisited v k numbers
+
+-- the calls for the job of a number say that it goes on so long, or asks for no such word and waits
+abbrev pub CallsSay : ℕ → back_ring.View → (number : ℕ) → Option JobPart → Type 0
+CallsSay n v number (Some p) = (n < p.count) × (p.word + p.count ≤ 1024) × (p.writes ≡ true → p.count ≤ length (job_values v number))
+CallsSay n v number None = job_ask_of v number ≡ Wait
