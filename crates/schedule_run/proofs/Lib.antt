@@ -20,3 +20,7 @@ pub mod LawfulEnds
 pub mod Headline
 pub mod Suspended
 pub mod Waiting
+pub mod Marking
+pub mod Looking
+pub mod Rounding
+pub mod AtOnce

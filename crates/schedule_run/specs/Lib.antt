@@ -7,3 +7,5 @@ pub mod Lawful
 pub mod Headline
 pub mod Following
 pub mod Going
+pub mod Marks
+pub mod Looking

@@ -26,9 +26,13 @@ use std::marker::Model;
 use vbd_back::Backend;
 use vbd_front::Frontend;
 
+mod at_once;
+mod looking;
+mod marks;
 mod memory;
 mod rounds;
 mod suspend;
+mod words;
 
 /// The frontend in its domain, the backend with its jobs in another, and what lies under both.
 #[derive(Drop)]

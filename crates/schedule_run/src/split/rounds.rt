@@ -89,7 +89,7 @@ impl Split {
 
     // A round: a move of the front, one of the back, then one of each job.
     #[inline(always)]
-    fn round<D: SectorDisk, R: Recorder>(
+    pub(super) fn round<D: SectorDisk, R: Recorder>(
         &mut self,
         disk: &mut D,
         recorder: &mut R,
@@ -116,8 +116,9 @@ impl Split {
             (moment self.old (D.seen disk.old) (R.seen recorder.old))
             (moment self.new (D.seen disk.new) (R.seen recorder.new)) }
     {
-        for _ in 0..count {
-            self.round(disk, recorder)?;
+        let mut left = u64::from(count);
+        while left > 0 {
+            left -= self.some_rounds(left, disk, recorder)?;
         }
         Ok(())
     }
@@ -134,11 +135,12 @@ impl Split {
             (moment self.old (D.seen disk.old) (R.seen recorder.old))
             (moment self.new (D.seen disk.new) (R.seen recorder.new)) }
     {
-        for _ in 0..bound {
+        let mut left = bound;
+        while left > 0 {
             if self.is_quiet() {
                 return Ok(());
             }
-            self.round(disk, recorder)?;
+            left -= self.some_rounds(left, disk, recorder)?;
         }
         Ok(())
     }

@@ -1,9 +1,11 @@
 use Rattle.vbd_model.specs.World.{is_quiet}
-use Rattle.vbd_model.specs.Kind.{AreRounds}
 use Rattle.vbd_model.specs.Leads.{moment}
-use Rattle.vbd_model.proofs.Running.{HasGone}
+use Rattle.schedule_run.proofs.Rounding.{AreLeft}
 use Rattle.schedule_run.proofs.split.Split.rounds_until_quiet.Given as goal
 
--- so many rounds led here
-abbrev pub invariant-loop : goal.invariant-loop
-invariant-loop g l = HasGone (AreRounds is_quiet l.counter l.fn.self) 42 l.counter l.bound (moment l.fn.self (g.D.SectorDisk.seen l.fn.disk) (g.R.Recorder.seen l.fn.recorder)) (moment l.self (g.D.SectorDisk.seen l.disk) (g.R.Recorder.seen l.recorder))
+-- so many rounds are left
+abbrev pub invariant-loop-left : goal.invariant-loop-left
+invariant-loop-left g l = AreLeft is_quiet l.left l.bound (moment l.fn.self (g.D.SectorDisk.seen l.fn.disk) (g.R.Recorder.seen l.fn.recorder)) (moment l.self (g.D.SectorDisk.seen l.disk) (g.R.Recorder.seen l.recorder))
+
+abbrev pub decreases-loop-left : goal.decreases-loop-left
+decreases-loop-left g l = l.left

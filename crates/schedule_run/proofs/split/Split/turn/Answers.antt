@@ -1,24 +1,31 @@
-use Rattle.std.proofs.Common.{◌≡◌, ◌<◌, ◌*◌, refl, subst, arith}
+use Rattle.std.proofs.Common.{refl, arith}
 use Rattle.std.proofs.lemmas.Result.{err_from_is_err_and}
-use Rattle.vbd_model.specs.Kind.{AreRounds, never}
-use Rattle.vbd_model.proofs.Running.{ready_again, gone_on, gone_to_stop, gone}
-use Rattle.vbd_model.proofs.Joining.{rounds_more, rounds_begun}
+use Rattle.vbd_model.specs.Kind.{never}
+use Rattle.schedule_run.proofs.Rounding.{left_first, left_on, left_ready, left_stopped, left_none}
 use Rattle.schedule_run.proofs.split.Split.turn.Goals as goal
 
-pub round-requires : goal.round-requires
-round-requires g c = ready_again _ 42 _ _ _ _ c.loop-test.true (c.requires) c.loop.invariant
+pub loop-left-init : goal.loop-left-init
+loop-left-init g c = left_first never c.from-left.result c.args.count _ c.from-left.ensures
 
-pub returns-in_err-round : goal.returns-in_err-round
-returns-in_err-round g c =
-    let less : c.loop.counter < c.args.count = c.loop-test.true in
+pub some_rounds-requires-clause-ready : goal.some_rounds-requires-clause-ready
+some_rounds-requires-clause-ready g c = left_ready never _ _ _ _ c.loop-left-test.true c.requires c.loop-left.invariant
+
+pub overflow_sub-left : goal.overflow_sub-left
+overflow_sub-left g c = c.in_ok-left.ensures.few
+
+pub loop-left-smaller : goal.loop-left-smaller
+loop-left-smaller g c =
+    let some = c.in_ok-left.ensures.some in
+    let few = c.in_ok-left.ensures.few in
+    omega arith
+
+pub loop-left-preserved : goal.loop-left-preserved
+loop-left-preserved g c = left_on never _ _ _ _ _ _ c.in_ok-left.ensures.few c.loop-left.invariant c.in_ok-left.ensures.rounds
+
+pub returns-in_err-left : goal.returns-in_err-left
+returns-in_err-left g c =
     let stopped = err_from_is_err_and c.from_residual.result c.from_residual.ensures.1 in
-    rw (stopped.1, stopped.2) (gone_to_stop _ _ _ _ _ 42 _ _ (42 * c.args.count) _ _ _ _ less (omega arith) (λ xs ys p here q. rounds_begun never c.loop.counter c.args.count c.args.self.now c.loop.self xs ys less refl p here q) c.loop.invariant c.in_err-round.ensures)
-
-pub loop-preserved : goal.loop-preserved
-loop-preserved g c =
-    gone_on _ _ _ _ 42 _ _ _ _ _ c.loop-test.true (λ xs ys p here q. rounds_more never c.loop.counter c.args.self.now c.loop.self xs ys refl p here q) c.loop.invariant c.in_ok-round.ensures
+    rw (stopped.1, stopped.2) (left_stopped never _ _ _ _ _ _ _ c.loop-left-test.true refl c.loop-left.invariant c.in_err-left.ensures)
 
 pub returns : goal.returns
-returns g c =
-    let all : c.loop.counter ≡ c.args.count = omega arith in
-    gone _ _ _ 42 _ _ (42 * c.args.count) _ _ (omega arith) (λ xs p here. subst (λ n. AreRounds never n c.args.self.now xs) all p) c.loop.invariant
+returns g c = left_none never _ _ _ _ (omega arith) c.loop-left.invariant

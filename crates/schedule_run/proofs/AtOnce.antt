@@ -1,0 +1,70 @@
+-- All words of some rounds at once: where the machine comes, and what a recorder without lines of moves sees of that.
+use Rattle.std.proofs.Common.{◌≡◌, ℕ, ◌*◌, ◌<◌, ◌≤◌, sym, ap, ◌∙◌, subst, arith}
+use Rattle.std.specs.Prelude.{Option, Some, None, IfSome, map}
+use Rattle.blk_io.specs.Disk.{DiskSeen}
+use Rattle.schedule_text.specs.declared.line.Detail.TheVariants.{Lines}
+use Rattle.schedule_text.specs.Recorder.{RecorderSeen}
+use Rattle.hypervisor.specs.Hypervisor.{Hypervisor}
+use Rattle.hypervisor.specs.Act.{with_pages}
+use Rattle.blk_front.specs.declared.sector_part.SectorPart.{SectorPart as FrontPart}
+use Rattle.xenbus_state.specs.declared.front.FrontNews.{FrontNews}
+use Rattle.xenbus_state.specs.BackView.{BackView}
+use Rattle.vbd_front.specs.View as front
+use Rattle.vbd_front.specs.Part.{sector_part, steps_of}
+use Rattle.vbd_back.specs.View.{View, both}
+use Rattle.vbd_model.specs.World.{World, frontend_of}
+use Rattle.vbd_model.specs.Fit.{IsFit}
+use Rattle.vbd_model.specs.Leads.{Moment, Keeps, moment}
+use Rattle.vbd_laws.proofs.Fit.{fit_after}
+use Rattle.round_laws.specs.Movers.{front_answers, front_writes, job_moved, jobs_write, FrontGoesOn}
+use Rattle.round_laws.specs.AtOnce.{with_jobs, moved, GoUnseen}
+use Rattle.round_laws.specs.Calls.{MayMoveAtOnce}
+use Rattle.round_laws.proofs.Rounds.{rounds_lead_there}
+use Rattle.round_laws.proofs.Unseen.{rounds_go_unseen}
+use Rattle.round_laws.proofs.Moving.{AllMoved}
+use Rattle.round_laws.proofs.Ending.{all_at_once}
+use Rattle.schedule_run.specs.Inside.{world_of, HasHeard}
+use Rattle.schedule_run.specs.Going.{GoneThrough}
+
+-- the machine is as fit as before
+pub moved_fit : (n : ℕ) (w : World) → MayMoveAtOnce n w → IsFit w → IsFit (moved n w)
+moved_fit n w may fit = let there = rounds_lead_there n w may.words in subst IsFit there.passes.world (fit_after there.history w fit)
+
+-- the front as the machine has it
+pub heard_so : (f : front.View) → HasHeard f → f ≡ record { ring = f.ring; bus = f.bus; news = None }
+heard_so f heard = ap (λ (news : Option FrontNews). record { ring = f.ring; bus = f.bus; news = news }) heard
+
+-- it has as many words left
+pub front_few : (n : ℕ) (f : front.View) (b : View) (u : Hypervisor) → HasHeard f → MayMoveAtOnce n (world_of f b u) → IfSome (sector_part f) (λ p. n ≤ p.count)
+front_few n f b u heard may = subst (λ (g : front.View). IfSome (sector_part g) (λ p. n ≤ p.count)) (sym (heard_so f heard)) (few (sector_part (frontend_of (world_of f b u))) may.words.front)
+  where
+    few : (o : Option FrontPart) → FrontGoesOn n (world_of f b u) o → IfSome o (λ p. n ≤ p.count)
+    few None goes = tt
+    few (Some p) goes = let less = goes.0 in omega arith
+
+-- the calls for the words of all jobs, and for those of the front, lead where the rounds lead
+pub moved_so : (n : ℕ) (f g : front.View) (b c : View) (u t x : Hypervisor) → HasHeard f → MayMoveAtOnce n (world_of f b u)
+    → c ≡ both (with_jobs b.ring (map (job_moved u n) b.ring.jobs.works)) b.bus → t ≡ with_pages u (jobs_write u n b.ring.jobs.works u.pages)
+    → g ≡ steps_of f (front_answers (sector_part f) t.pages n) → x ≡ with_pages t (front_writes (sector_part f) n t.pages) → world_of g c x ≡ moved n (world_of f b u)
+moved_so n f g b c u t x heard may jobs written stepped wrote =
+    let w : World = world_of f b u in
+    let same : f ≡ frontend_of w = heard_so f heard in
+    let all : AllMoved n u b.ring c.ring t = record { back = ap (λ (v : View). v.ring) jobs; under = written } in
+    ap (λ (bus : BackView). record { rings = record { front = g.ring; back = c.ring; under = x }; front = g.bus; back = bus }) (ap (λ (v : View). v.bus) jobs)
+    ∙ all_at_once n w g c.ring t x may all (stepped ∙ ap (λ (y : front.View). steps_of y (front_answers (sector_part y) t.pages n)) same)
+    (wrote ∙ ap (λ (y : front.View). with_pages t (front_writes (sector_part y) n t.pages)) same)
+
+-- so many rounds went by
+keeps_more : (n : ℕ) (a b : Moment) → Keeps 0 a b → Keeps n a b
+keeps_more n a b keeps = let made = keeps.made in record { made = omega arith; sectors = keeps.sectors; attachment = keeps.attachment }
+
+pub gone_at_once : (n k most : ℕ) (w v : World) (d : DiskSeen) (r : RecorderSeen) → k ≡ n → 0 < n → n ≤ most → MayMoveAtOnce n w → v ≡ moved n w → r.detail ≡ Lines → GoneThrough k most (moment w d r) (moment v d r)
+gone_at_once n k most w v d r same some few may is plain =
+    let gone : GoUnseen n w d r = rounds_go_unseen n w d r may.words plain in
+    rw (same, is)
+    (record {
+      some = some;
+      few = few;
+      rounds = record { ends = gone.lead; keeps = keeps_more (42 * n) (moment w d r) (moment (moved n w) d r) gone.keeps };
+      unquiet = λ busy. record { ends = gone.unquiet busy; keeps = keeps_more (42 * n) (moment w d r) (moment (moved n w) d r) gone.keeps };
+    })
