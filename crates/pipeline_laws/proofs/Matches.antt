@@ -60,7 +60,7 @@ pub record Matches (p : Pipeline) (d : Disk) (content : List (List ℕ)) : Type 
   pub requests : d.requests ≡ map asked p.requests
   pub each : Each (IsTold d.done d.noted) p.requests
   pub later : (id : ℕ) → length p.requests < id → IsDoneTo d.done id 0
-  pub known : IsKnown d.first d.written content
+  pub known : IsKnown d.first d.changes content
 
 -- what another request did
 done_elsewhere : (done : List Place) (id other i : ℕ) (n : Option ℕ) → id ≢ other → IsDone done id n → IsDone (done ++ place other i ∷ []) id n

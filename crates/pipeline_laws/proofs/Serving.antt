@@ -1,26 +1,28 @@
 -- The moves of a submission on the disk: a sector filled or read, a flush, a discard, a failure.
 use Rattle.std.proofs.Common.{◌≡◌, ◌≢◌, ℕ, ◌+◌, ◌<◌, Bool, true, false, not, ◌||◌, List, [], ◌∷◌, ◌++◌, length, map, refl, ap, sym, ◌∙◌, subst, arith, length-set}
 use Rattle.std.specs.Prelude.{Option, Some, None, slice_get, slice_set, nat_lt}
-use Rattle.std.proofs.lemmas.Cmp.{nat_list_eq_equiv}
-use Rattle.std.proofs.lemmas.Option.{same_Some, slice_get_within}
+use Rattle.std.proofs.lemmas.Option.{slice_get_within}
 use Rattle.std.proofs.lemmas.Bool.Decides.{nat_tests}
 use Rattle.blk_base.specs.declared.config.Submission.{Submission}
 use Rattle.blk_base.specs.declared.config.Submission.TheVariants.{Read, Write, Barrier, Flush, Discard}
 use Rattle.schedule_text.specs.declared.line.Line.{Line}
 use Rattle.schedule_text.specs.declared.line.Line.TheVariants as lines
 use Rattle.plain_disk.specs.declared.request.Place.{Place}
-use Rattle.plain_disk.specs.declared.request.Written.{Written}
+use Rattle.plain_disk.specs.declared.request.Change.{Change}
+use Rattle.plain_disk.specs.declared.request.Change.TheVariants as change
 use Rattle.plain_disk.specs.Request.{opened, is_read, is_write, is_flush, is_discard, is_ordered, places_of, sector_of, count_of, filling, may_serve}
+use Rattle.plain_disk.specs.Sector.{may_hold}
 use Rattle.plain_disk.specs.Disk.{Disk}
-use Rattle.plain_disk.specs.Step.{step, after, served, place, one_sector, all_sectors, may_hold, place_words, lost_of, with_request, is_in_order}
+use Rattle.plain_disk.specs.Step.{step, after, served, place, one_sector, all_sectors, place_sector, lost_of, with_request, is_in_order}
 use Rattle.pipeline_laws.specs.Station.{Working, Failed, PipelineRequest, asked, asked_at}
 use Rattle.pipeline_laws.specs.Move.{Fills, Reads, Flushes, Trims, Fails, moved, move_lines}
 use Rattle.pipeline_laws.specs.Pipeline.{Pipeline, Moves, next}
 use Rattle.pipeline_laws.specs.Allowed.{IsAt, IsClear}
 use Rattle.pipeline_laws.specs.Disk.{lost_sector, lost_count}
+use Rattle.pipeline_laws.specs.Run.{HasOneOf}
 use Rattle.pipeline_laws.proofs.Lists.{Each, each_set, each_kept, set_same}
 use Rattle.pipeline_laws.proofs.Done.{IsDoneTo, done_more, done_other, noted_here}
-use Rattle.pipeline_laws.proofs.Content.{Changes, IsKnown, known_more, known_read, known_same}
+use Rattle.pipeline_laws.proofs.Content.{Changes, IsKnown, known_filled, known_spoiled, known_showed, known_flushed, known_same}
 use Rattle.pipeline_laws.proofs.Operations.{write_no_read, flush_no_read, discard_no_read, flush_place, discard_place}
 use Rattle.pipeline_laws.proofs.Matches.{Matches, IsTold, IsLong, IsDone, done_at, note, told_elsewhere, read_elsewhere, asked_here, set_asked}
 use Rattle.pipeline_laws.proofs.Clear.{in_order}
@@ -72,7 +74,7 @@ same_asked p d content k n m x words h at = h.requests ∙ sym (set_same asked p
 pub fills : (p : Pipeline) (d : Disk) (content later : List (List ℕ)) (k : ℕ) (x : PipelineRequest) (n : ℕ) → IsAt p k x (Working n) → is_write x.submission ≡ true → n < places_of x.submission → IsClear p k x
     → Changes (sector_of x.submission + n) 1 (Some (filling x.submission n)) content later → Matches p d content → Leads (next p (Moves k x (Fills n))) d (move_lines k (Fills n)) later
 fills p d content later k x n at submission more clear changes m = record {
-  disk = served d (place (k + 1) n) (one_sector x.submission n (Some (filling x.submission n)));
+  disk = served d (place (k + 1) n) (change.Filled (one_sector x.submission n) (filling x.submission n));
   run = one_line d _ (lines.Effect (k + 1) n) (rw (
     asked_here p d content k x (Working n) m at,
     submission,
@@ -83,13 +85,13 @@ fills p d content later k x n at submission more clear changes m = record {
     requests = same_asked p d content k n (n + 1) x x.words m at;
     each = served_each p d content k n x m at (write_no_read x.submission submission);
     later = served_later p d content k n x _ m at.here;
-    known = known_more d.first d.written (one_sector x.submission n (Some (filling x.submission n))) content later changes m.known;
+    known = known_filled d.first d.changes (one_sector x.submission n) (filling x.submission n) content later changes m.known;
   };
 }
 
 pub flushes : (p : Pipeline) (d : Disk) (content : List (List ℕ)) (k : ℕ) (x : PipelineRequest) → IsAt p k x (Working 0) → is_flush x.submission ≡ true → Matches p d content → Leads (next p (Moves k x Flushes)) d (move_lines k Flushes) content
 flushes p d content k x at submission m = record {
-  disk = record d { done = d.done ++ place (k + 1) 0 ∷ [] };
+  disk = served d (place (k + 1) 0) change.Flushed;
   run = one_line d _ (lines.Flushed (k + 1)) (rw (
     asked_here p d content k x (Working 0) m at,
     submission,
@@ -99,7 +101,7 @@ flushes p d content k x at submission m = record {
     requests = same_asked p d content k 0 1 x x.words m at;
     each = served_each p d content k 0 x m at (flush_no_read x.submission submission);
     later = served_later p d content k 0 x _ m at.here;
-    known = m.known;
+    known = known_flushed d.first d.changes content m.known;
   };
 }
 
@@ -111,7 +113,7 @@ from_start sector count words content later changes =
 pub trims : (p : Pipeline) (d : Disk) (content later : List (List ℕ)) (k : ℕ) (x : PipelineRequest) → IsAt p k x (Working 0) → is_discard x.submission ≡ true → IsClear p k x
     → Changes (sector_of x.submission) (count_of x.submission) (Some (filling x.submission 0)) content later → Matches p d content → Leads (next p (Moves k x Trims)) d (move_lines k Trims) later
 trims p d content later k x at submission clear changes m = record {
-  disk = served d (place (k + 1) 0) (all_sectors x.submission (Some (filling x.submission 0)));
+  disk = served d (place (k + 1) 0) (change.Filled (all_sectors x.submission) (filling x.submission 0));
   run = one_line d _ (lines.Trimmed (k + 1)) (rw (
     asked_here p d content k x (Working 0) m at,
     submission,
@@ -122,17 +124,17 @@ trims p d content later k x at submission clear changes m = record {
     requests = same_asked p d content k 0 1 x x.words m at;
     each = served_each p d content k 0 x m at (discard_no_read x.submission submission);
     later = served_later p d content k 0 x _ m at.here;
-    known = known_more d.first d.written (all_sectors x.submission (Some (filling x.submission 0))) content later (from_start (sector_of x.submission) (count_of x.submission) (Some (filling x.submission 0)) content later changes) m.known;
+    known = known_filled d.first d.changes (all_sectors x.submission) (filling x.submission 0) content later (from_start (sector_of x.submission) (count_of x.submission) (Some (filling x.submission 0)) content later changes) m.known;
   };
 }
 
 -- a failure: what it leaves nobody knows
-lost_known : (first : List (List ℕ)) (written : List Written) (submission : Submission) (n : ℕ) (content later : List (List ℕ)) → Changes (lost_sector submission n) (lost_count submission) None content later → IsKnown first written content → IsKnown first (lost_of written submission n) later
-lost_known first written (Read sector count) n content later changes known = known_same first written sector content later changes known
-lost_known first written (Write sector count tag) n content later changes known = known_more first written (one_sector (Write sector count tag) n None) content later changes known
-lost_known first written (Barrier sector count tag) n content later changes known = known_more first written (one_sector (Barrier sector count tag) n None) content later changes known
-lost_known first written Flush n content later changes known = known_same first written 0 content later changes known
-lost_known first written (Discard sector count) n content later changes known = known_more first written (all_sectors (Discard sector count) None) content later (from_start sector count None content later changes) known
+lost_known : (first : List (List ℕ)) (changes : List Change) (submission : Submission) (n : ℕ) (content later : List (List ℕ)) → Changes (lost_sector submission n) (lost_count submission) None content later → IsKnown first changes content → IsKnown first (lost_of changes submission n) later
+lost_known first changes (Read sector count) n content later does known = known_same first changes sector content later does known
+lost_known first changes (Write sector count tag) n content later does known = known_spoiled first changes (one_sector (Write sector count tag) n) content later does known
+lost_known first changes (Barrier sector count tag) n content later does known = known_spoiled first changes (one_sector (Barrier sector count tag) n) content later does known
+lost_known first changes Flush n content later does known = known_same first changes 0 content later does known
+lost_known first changes (Discard sector count) n content later does known = known_spoiled first changes (all_sectors (Discard sector count)) content later (from_start sector count None content later does) known
 
 fault_order : (ordered clear : Bool) → (ordered ≡ true → clear ≡ true) → (not ordered || clear) ≡ true
 fault_order true clear h = h refl
@@ -141,7 +143,7 @@ fault_order false clear h = refl
 pub fails : (p : Pipeline) (d : Disk) (content later : List (List ℕ)) (k : ℕ) (x : PipelineRequest) (n : ℕ) → IsAt p k x (Working n) → n < places_of x.submission → (is_ordered x.submission ≡ true → IsClear p k x)
     → Changes (lost_sector x.submission n) (lost_count x.submission) None content later → Matches p d content → Leads (next p (Moves k x (Fails n))) d (move_lines k (Fails n)) later
 fails p d content later k x n at more clear changes m = record {
-  disk = record d { requests = with_request d.requests (k + 1) (asked_at x.submission Failed); written = lost_of d.written x.submission n };
+  disk = record d { requests = with_request d.requests (k + 1) (asked_at x.submission Failed); changes = lost_of d.changes x.submission n };
   run = one_line d _ (lines.Fault (k + 1) n) (rw (
     asked_here p d content k x (Working n) m at,
     may_serve_at d.done (k + 1) n x.submission (job_done p d content k n x m at) more,
@@ -151,7 +153,7 @@ fails p d content later k x n at more clear changes m = record {
     requests = set_asked d.requests p.requests k (moved x (Fails n)) m.requests;
     each = each_kept (IsTold d.done d.noted) p.requests k (moved x (Fails n)) (record { done = tt; noted = (m.each k x at.here).noted; long = tt; served = refl }) m.each;
     later = λ id above. m.later id (rw length-set at above);
-    known = lost_known d.first d.written x.submission n content later changes m.known;
+    known = lost_known d.first d.changes x.submission n content later changes m.known;
   };
 }
 
@@ -171,18 +173,18 @@ length_one (y ∷ xs) x n e =
     omega arith
 
 -- the words that are shown may be there
-holds_words : (known : Option (List ℕ)) (words : List ℕ) → ((w : List ℕ) → known ≡ Some w → words ≡ w) → may_hold known words ≡ true
-holds_words None words same = refl
-holds_words (Some w) words same = rw (same w refl) (nat_list_eq_equiv.refl w)
+holds_words : (own : Option (List (List ℕ))) (now : Option (List ℕ)) (words : List ℕ) → now ≡ Some words → HasOneOf own now → may_hold own words ≡ true
+holds_words None now words here has = refl
+holds_words (Some list) now words here has = subst (HasOneOf (Some list)) here has
 
 pub reads : (p : Pipeline) (d : Disk) (content : List (List ℕ)) (k : ℕ) (x : PipelineRequest) (n : ℕ) (words : List ℕ) → IsAt p k x (Working n) → is_read x.submission ≡ true → n < places_of x.submission
     → slice_get content (sector_of x.submission + n) ≡ Some words → Matches p d content → Leads (next p (Moves k x (Reads n words))) d (move_lines k (Reads n words)) content
 reads p d content k x n words at submission more here m =
     let was : IsTold d.done d.noted k x = m.each k x at.here in
     let long : length x.words ≡ n = job_long (is_read x.submission) n x.words submission (subst (λ s. IsLong s (is_read x.submission) x.words) at.there was.long) in
-    let holds : may_hold (place_words d.first d.written x.submission n) words ≡ true = holds_words (place_words d.first d.written x.submission n) words (λ w e. same_Some words w (sym here ∙ m.known (sector_of x.submission + n) w e)) in
+    let holds : may_hold (place_sector d.first d.changes x.submission n).own words ≡ true = holds_words (place_sector d.first d.changes x.submission n).own (slice_get content (sector_of x.submission + n)) words here (m.known (sector_of x.submission + n)) in
     record {
-      disk = record (served d (place (k + 1) n) (one_sector x.submission n (Some words))) { noted = d.noted ++ note (k + 1) n words ∷ [] };
+      disk = record (served d (place (k + 1) n) (change.Showed (one_sector x.submission n) words)) { noted = d.noted ++ note (k + 1) n words ∷ [] };
       run = one_line d _ (lines.EffectRead (k + 1) n words) (rw (
         asked_here p d content k x (Working n) m at,
         submission,
@@ -200,6 +202,6 @@ reads p d content k x n words at submission more here m =
             })
             (λ j y other e h. read_elsewhere d.done d.noted j k n words y other h) m.each;
         later = served_later p d content k n x _ m at.here;
-        known = known_read d.first d.written (one_sector x.submission n (Some words)) content words refl refl here m.known;
+        known = known_showed d.first d.changes (one_sector x.submission n) words content refl here m.known;
       };
     }

@@ -22,6 +22,7 @@ use Rattle.pipeline_laws.specs.Disk.{DiskDoes, DiskGoes}
 use Rattle.pipeline_laws.specs.Run.{BeginsWithin}
 use Rattle.pipeline_laws.proofs.Lists.{Each, each_kept, each_more, each_map, map_more, map_twice}
 use Rattle.pipeline_laws.proofs.Done.{done_none}
+use Rattle.pipeline_laws.proofs.Content.{known_first}
 use Rattle.pipeline_laws.proofs.DiskDoes.{lost_changes}
 use Rattle.pipeline_laws.proofs.Matches.{Matches, IsTold, IsLong, IsDone, done_at, is_unserved}
 use Rattle.pipeline_laws.proofs.Range.{IsOnDisk, AreOnDisk, accepted_on_disk, fill_changes, trim_changes, move_sized}
@@ -201,7 +202,7 @@ step_goes p d content later s may does stands = by_step s may does
 -- the start
 pub start_stands : (options : Options) (first content : List (List ℕ)) → BeginsWithin first content → length content ≡ options.sectors → Stands (pipeline_of options) (disk_of first) content
 start_stands options first content within sized = record {
-  matches = record { requests = refl; each = λ k x e. absurd (none-some x e); later = λ id above. done_none id; known = within };
+  matches = record { requests = refl; each = λ k x e. absurd (none-some x e); later = λ id above. done_none id; known = known_first first content within };
   on_disk = λ k x e. absurd (none-some x e);
   sized = sized;
 }

@@ -1,9 +1,10 @@
 -- A run of the pipeline, and its report as a run of the plain disk, over what the disk held before it and holds after it.
-use Rattle.std.specs.Prelude.{◌≡◌, ℕ, List, [], length, map, slice_get, Option, Some, None}
+use Rattle.std.specs.Prelude.{◌≡◌, ℕ, true, List, [], length, map, slice_get, Option, Some, None, IsSomeAnd}
 use Rattle.blk_base.specs.Options.{Options}
 use Rattle.schedule_text.specs.declared.line.Detail.{Detail}
 use Rattle.schedule_text.specs.declared.line.Line.{Line}
-use Rattle.plain_disk.specs.Disk.{Disk, disk_of, words_at}
+use Rattle.plain_disk.specs.Sector.{sector_at, may_hold}
+use Rattle.plain_disk.specs.Disk.{Disk, disk_of}
 use Rattle.plain_disk.specs.Step.{after}
 use Rattle.pipeline_laws.specs.Station.{asked}
 use Rattle.pipeline_laws.specs.Pipeline.{Pipeline, Step, pipeline_of, after_steps, report_of}
@@ -27,10 +28,15 @@ run_report r = report_of r.options r.detail r.steps
 abbrev pub pipeline_after : PipelineRun → Pipeline
 pipeline_after r = after_steps r.steps (pipeline_of r.options)
 
--- so many sectors, and in each that the plain disk knows the words that it knows there
+-- a sector that has one of these words; where nobody knows, any or none
+abbrev pub HasOneOf : Option (List (List ℕ)) → Option (List ℕ) → Type 0
+HasOneOf None now = Unit {0}
+HasOneOf (Some list) now = IsSomeAnd now (λ (words : List ℕ). may_hold (Some list) words ≡ true)
+
+-- so many sectors, and in each words that the plain disk says it may have
 pub record Keeps (sectors : ℕ) (d : Disk) (content : List (List ℕ)) : Type 0 where
   pub sized : length content ≡ sectors
-  pub known : (i : ℕ) (words : List ℕ) → words_at d.first d.written i ≡ Some words → slice_get content i ≡ Some words
+  pub known : (i : ℕ) → HasOneOf (sector_at d.first d.changes i).own (slice_get content i)
 
 abbrev pub IsKept : ℕ → Disk → Option (List (List ℕ)) → Type 0
 IsKept sectors d None = Unit {0}
@@ -53,7 +59,7 @@ pub record IsRun (sectors : ℕ) (before now : Option (List (List ℕ))) (report
 abbrev pub BeginsWithin : (first content : List (List ℕ)) → Type 0
 BeginsWithin first content = (i : ℕ) (words : List ℕ) → slice_get first i ≡ Some words → slice_get content i ≡ Some words
 
--- these lines are a run of the plain disk from those sectors; its requests are then those of the pipeline, each as its station says, and it knows of each sector what the content holds
+-- these lines are a run of the plain disk from those sectors; its requests are then those of the pipeline, each as its station says, and each sector of the content has what it says
 pub record IsRunOf (first : List (List ℕ)) (r : PipelineRun) (lines : List Line) : Type 0 where
   pub disk : Disk
   pub run : after lines (disk_of first) ≡ Some disk

@@ -1,4 +1,5 @@
 pub mod Request
+pub mod Sector
 pub mod Disk
 pub mod Step
 pub mod Stands

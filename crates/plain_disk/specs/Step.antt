@@ -12,9 +12,12 @@ use Rattle.plain_disk.specs.declared.request.RequestStage.{RequestStage}
 use Rattle.plain_disk.specs.declared.request.RequestStage.TheVariants.{Telling, Finished}
 use Rattle.plain_disk.specs.declared.request.DiskRequest.{DiskRequest}
 use Rattle.plain_disk.specs.declared.request.Place.{Place}
-use Rattle.plain_disk.specs.declared.request.Written.{Written}
+use Rattle.plain_disk.specs.declared.request.Extent.{Extent}
+use Rattle.plain_disk.specs.declared.request.Change.{Change}
+use Rattle.plain_disk.specs.declared.request.Change.TheVariants as change
 use Rattle.plain_disk.specs.Request.{opened, places_of, is_read, is_write, is_flush, is_discard, is_barrier, is_ordered, sector_of, count_of, filling, is_open, is_finished, may_serve, done_count, are_settled}
-use Rattle.plain_disk.specs.Disk.{Disk, words_at, request_of, noted_at}
+use Rattle.plain_disk.specs.Sector.{Sector, sector_at, may_hold}
+use Rattle.plain_disk.specs.Disk.{Disk, request_of, noted_at}
 
 -- the requests with one of them changed
 abbrev pub with_request : List DiskRequest → ℕ → DiskRequest → List DiskRequest
@@ -32,49 +35,44 @@ is_in_order d id r = are_settled d.done 1 (take (id - 1) d.requests) (is_barrier
 abbrev pub place : ℕ → ℕ → Place
 place id index = record { id = id; index = index }
 
--- what the sector of a request's place holds from now on
-abbrev pub one_sector : Submission → ℕ → Option (List ℕ) → Written
-one_sector submission index words = record { sector = sector_of submission; from = index; count = 1; words = words }
+-- the sector of a request's place
+abbrev pub one_sector : Submission → ℕ → Extent
+one_sector submission index = record { sector = sector_of submission; from = index; count = 1 }
 
--- what all sectors of a request hold from now on
-abbrev pub all_sectors : Submission → Option (List ℕ) → Written
-all_sectors submission words = record { sector = sector_of submission; from = 0; count = count_of submission; words = words }
+-- all sectors of a request
+abbrev pub all_sectors : Submission → Extent
+all_sectors submission = record { sector = sector_of submission; from = 0; count = count_of submission }
 
--- a place was done, and sectors hold something else
-abbrev pub served : Disk → Place → Written → Disk
-served d p w = record d { done = d.done ++ p ∷ []; written = d.written ++ w ∷ [] }
+-- a place was done, and something happened to sectors
+abbrev pub served : Disk → Place → Change → Disk
+served d p c = record d { done = d.done ++ p ∷ []; changes = d.changes ++ c ∷ [] }
 
 -- a sector of a write or barrier was filled
 abbrev pub effect_of : Disk → ℕ → ℕ → Option DiskRequest → Option Disk
 effect_of d id index None = None
 effect_of d id index (Some r) =
     if is_write r.submission && may_serve d.done id r index && is_in_order d id r
-    then Some (served d (place id index) (one_sector r.submission index (Some (filling r.submission index))))
+    then Some (served d (place id index) (change.Filled (one_sector r.submission index) (filling r.submission index)))
     else None
 
--- the sector may hold these words: nobody knows it, or it holds them
-abbrev pub may_hold : Option (List ℕ) → List ℕ → Bool
-may_hold None words = true
-may_hold (Some known) words = pointwise nat_eq known words
-
--- what the sector of a request's place holds
-abbrev pub place_words : List (List ℕ) → List Written → Submission → ℕ → Option (List ℕ)
-place_words first written submission index = words_at first written (sector_of submission + index)
+-- the sector of a request's place, after these changes
+abbrev pub place_sector : List (List ℕ) → List Change → Submission → ℕ → Sector
+place_sector first changes submission index = sector_at first changes (sector_of submission + index)
 
 -- a sector of a read showed these words
 abbrev pub read_of : Disk → ℕ → ℕ → List ℕ → Option DiskRequest → Option Disk
 read_of d id index words None = None
 read_of d id index words (Some r) =
-    if is_read r.submission && may_serve d.done id r index && may_hold (place_words d.first d.written r.submission index) words
-    then Some (record (served d (place id index) (one_sector r.submission index (Some words))) { noted = d.noted ++ record { id = id; index = index; words = words } ∷ [] })
+    if is_read r.submission && may_serve d.done id r index && may_hold (place_sector d.first d.changes r.submission index).own words
+    then Some (record (served d (place id index) (change.Showed (one_sector r.submission index) words)) { noted = d.noted ++ record { id = id; index = index; words = words } ∷ [] })
     else None
 
--- a flush was done
+-- a flush was done: what was written is on stable storage
 abbrev pub flushed_of : Disk → ℕ → Option DiskRequest → Option Disk
 flushed_of d id None = None
 flushed_of d id (Some r) =
     if is_flush r.submission && may_serve d.done id r 0
-    then Some (record d { done = d.done ++ place id 0 ∷ [] })
+    then Some (served d (place id 0) change.Flushed)
     else None
 
 -- a discard was done: its sectors are zeros
@@ -82,22 +80,22 @@ abbrev pub trimmed_of : Disk → ℕ → Option DiskRequest → Option Disk
 trimmed_of d id None = None
 trimmed_of d id (Some r) =
     if is_discard r.submission && may_serve d.done id r 0 && is_in_order d id r
-    then Some (served d (place id 0) (all_sectors r.submission (Some (filling r.submission 0))))
+    then Some (served d (place id 0) (change.Filled (all_sectors r.submission) (filling r.submission 0)))
     else None
 
 -- what a fault leaves unknown: the sector in hand of a write or barrier, the range of a discard
-abbrev pub lost_of : List Written → Submission → ℕ → List Written
-lost_of written submission index =
-    if is_write submission then written ++ one_sector submission index None ∷ []
-    else (if is_discard submission then written ++ all_sectors submission None ∷ []
-    else written)
+abbrev pub lost_of : List Change → Submission → ℕ → List Change
+lost_of changes submission index =
+    if is_write submission then changes ++ change.Spoiled (one_sector submission index) ∷ []
+    else (if is_discard submission then changes ++ change.Spoiled (all_sectors submission) ∷ []
+    else changes)
 
 -- the disk failed at a place
 abbrev pub fault_of : Disk → ℕ → ℕ → Option DiskRequest → Option Disk
 fault_of d id index None = None
 fault_of d id index (Some r) =
     if may_serve d.done id r index && (not (is_ordered r.submission) || is_in_order d id r)
-    then Some (record d { requests = with_request d.requests id (record r { faulted = true }); written = lost_of d.written r.submission index })
+    then Some (record d { requests = with_request d.requests id (record r { faulted = true }); changes = lost_of d.changes r.submission index })
     else None
 
 -- a reply may say this: `ok` where all is done in this epoch, `error` where the disk failed in it, never `unsupported`

@@ -1,13 +1,14 @@
 // The plain, slow program.
-ghost use Rattle.std.specs.Prelude.{◌≡◌, ℕ, List, Option, Some, None, IsNone};
-ghost use Rattle.plain_disk.specs.Disk.{disk_of, words_at};
+ghost use Rattle.std.specs.Prelude.{◌≡◌, ℕ, List, Option, Some, None, IsNone, option_map};
+ghost use Rattle.plain_disk.specs.Sector.{sector_at, only, may_hold};
+ghost use Rattle.plain_disk.specs.Disk.{disk_of};
 ghost use Rattle.plain_disk.specs.Step.{step};
 ghost use Rattle.plain_disk.specs.Stands.{Steps};
 
 mod steps;
 
-use crate::looking;
-use crate::request::{DiskRequest, Noted, Place, Written};
+use crate::request::{Change, DiskRequest, Noted, Place};
+use crate::sectors;
 use blk_base::{OutOfMemory, SectorWords};
 use schedule_text::Line;
 use std::alloc::Global;
@@ -23,11 +24,11 @@ pub enum Stand {
 }
 
 /// A plain disk, moved by the lines of a report: first what its sectors hold, then each line's step.
-/// It keeps all that was written, and looks through it each time.
+/// It keeps all that happened to sectors, and looks through it each time.
 #[derive(Drop)]
 pub struct PlainDisk {
     first: Vec<SectorWords>,
-    written: Vec<Written>,
+    changes: Vec<Change>,
     requests: Vec<DiskRequest>,
     done: Vec<Place>,
     noted: Vec<Noted>,
@@ -38,7 +39,7 @@ impl Model for PlainDisk {
 
     ghost Value = { Disk };
 
-    ghost view = { λ d. record { first = d.first.items; written = d.written.items; requests = d.requests.items; done = d.done.items; noted = d.noted.items } };
+    ghost view = { λ d. record { first = d.first.items; changes = d.changes.items; requests = d.requests.items; done = d.done.items; noted = d.noted.items } };
 }
 
 impl PlainDisk {
@@ -48,7 +49,7 @@ impl PlainDisk {
     {
         PlainDisk {
             first,
-            written: Vec::new(alloc),
+            changes: Vec::new(alloc),
             requests: Vec::new(alloc),
             done: Vec::new(alloc),
             noted: Vec::new(alloc),
@@ -57,12 +58,24 @@ impl PlainDisk {
 
     /// What a sector holds, where that is known.
     pub fn words_at(&self, sector: u64) -> Option<SectorWords>
-        ensures { result ≡ words_at self.now.first self.now.written sector }
+        ensures { (sector_at self.now.first self.now.changes sector).own ≡ option_map only result }
     {
-        looking::words_at(
+        sectors::words_at(
             self.first.as_slice(),
-            self.written.as_slice(),
+            self.changes.as_slice(),
             u128::from(sector),
+        )
+    }
+
+    /// Whether a sector may have these words where the disk loses its cache now.
+    pub fn may_leave(&self, sector: u64, words: &SectorWords) -> bool
+        ensures { result ≡ may_hold (sector_at self.now.first self.now.changes sector).loss words.now }
+    {
+        sectors::may_leave(
+            self.first.as_slice(),
+            self.changes.as_slice(),
+            u128::from(sector),
+            words,
         )
     }
 

@@ -1,12 +1,12 @@
 // What a plain disk is asked before a line's step.
 ghost use Rattle.std.specs.Prelude.{◌≡◌, ◌+◌, ◌<◌, ◌-◌, ◌∷◌, slice_get, length, take, IsSome};
 ghost use Rattle.plain_disk.specs.Request.{places_of, sector_of, count_of, filling, is_read, is_write, is_flush, is_discard, is_barrier, is_ordered, is_open, is_finished, is_done, done_count, may_serve, is_settled, are_settled};
-ghost use Rattle.plain_disk.specs.Disk.{covers, words_at, request_of, noted_at};
-ghost use Rattle.plain_disk.specs.Step.{may_hold, are_noted, is_next, is_status, told_stage, next_stage, place_words, reopened};
+ghost use Rattle.plain_disk.specs.Disk.{request_of, noted_at};
+ghost use Rattle.plain_disk.specs.Step.{are_noted, is_next, is_status, told_stage, next_stage, reopened};
 ghost use Rattle.std.specs.List.{list_all};
 ghost use Rattle.plain_disk.specs.declared.request.DiskRequest.{DiskRequest};
 
-use crate::request::{DiskRequest, Noted, Place, RequestStage, Written};
+use crate::request::{DiskRequest, Noted, Place, RequestStage};
 use blk_base::{SectorWords, Status, Submission};
 
 /// How many places a request has.
@@ -168,38 +168,6 @@ pub fn are_settled(done: &[Place], earlier: &[DiskRequest], barrier: bool) -> bo
     true
 }
 
-/// Whether a sector is among those written.
-pub fn covers(w: &Written, sector: u128) -> bool
-    ensures { result ≡ covers w.now sector }
-{
-    let begin = u128::from(w.sector) + u128::from(w.from);
-    begin <= sector && sector < begin + u128::from(w.count)
-}
-
-/// What a sector holds, where that is known.
-pub fn words_at(first: &[SectorWords], written: &[Written], sector: u128) -> Option<SectorWords>
-    ensures { result ≡ words_at first.now written.now sector }
-{
-    let mut words = first_words(first, sector);
-    for w in written {
-        if covers(w, sector) {
-            words = w.words;
-        }
-    }
-    words
-}
-
-// What a sector held at first.
-fn first_words(first: &[SectorWords], sector: u128) -> Option<SectorWords>
-    ensures { result ≡ slice_get first.now sector }
-{
-    if sector < first.len() as u128 {
-        Some(first[sector as usize])
-    } else {
-        None
-    }
-}
-
 /// The request of a number.
 pub fn request_of(requests: &[DiskRequest], id: u64) -> Option<DiskRequest>
     ensures value { result ≡ request_of requests.now id }
@@ -221,29 +189,6 @@ pub fn noted_at(noted: &[Noted], id: u64, index: u32) -> Option<SectorWords>
         }
     }
     words
-}
-
-/// What the sector of a request's place holds, where that is known.
-pub fn place_words(
-    first: &[SectorWords],
-    written: &[Written],
-    submission: &Submission,
-    index: u32,
-) -> Option<SectorWords>
-    ensures { result ≡ place_words first.now written.now submission.now index }
-{
-    let sector = u128::from(sector_of(submission)) + u128::from(index);
-    words_at(first, written, sector)
-}
-
-/// Whether a sector may hold these words.
-pub fn may_hold(known: &Option<SectorWords>, words: &SectorWords) -> bool
-    ensures { result ≡ may_hold known.now words.now }
-{
-    match known {
-        None => true,
-        Some(known) => *known == *words,
-    }
 }
 
 /// Whether these words were noted.

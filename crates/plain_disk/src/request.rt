@@ -38,12 +38,23 @@ pub struct Noted {
     pub words: SectorWords,
 }
 
-/// What sectors hold from a moment on: each of `count`, the first one `from` sectors after
-/// `sector`, has these words, or words that nobody knows.
+/// Sectors: `count` of them, the first one `from` sectors after `sector`.
 #[derive(Clone, Copy)]
-pub struct Written {
+pub struct Extent {
     pub sector: u64,
     pub from: u32,
     pub count: u32,
-    pub words: Option<SectorWords>,
+}
+
+/// What happened to sectors, or to the whole disk.
+#[derive(Clone, Copy)]
+pub enum Change {
+    /// They were filled with these words, or discarded.
+    Filled { at: Extent, words: SectorWords },
+    /// The disk failed: they may hold anything.
+    Spoiled { at: Extent },
+    /// One was read, and held these words.
+    Showed { at: Extent, words: SectorWords },
+    /// All that was written is on stable storage.
+    Flushed,
 }

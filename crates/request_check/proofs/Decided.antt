@@ -1,6 +1,6 @@
 -- Where the state follows the disk, its verdicts are the rules.
 use Rattle.std.proofs.Common.{◌≡◌, ℕ, suc, ◌+◌, ◌-◌, ◌==◌, ◌&&◌, ◌||◌, not, Bool, true, false, List, take, length, refl, ap, sym, ◌∙◌, subst, arith}
-use Rattle.std.specs.Prelude.{Option, Some, None, is_none}
+use Rattle.std.specs.Prelude.{Option, Some, None, is_none, option_map}
 use Rattle.std.specs.List.{list_all}
 use Rattle.std.specs.Map.{values_of}
 use Rattle.std.proofs.lemmas.Bool.Decides.{nat_tests}
@@ -15,7 +15,8 @@ use Rattle.plain_disk.specs.declared.request.RequestStage.{RequestStage}
 use Rattle.plain_disk.specs.declared.request.RequestStage.TheVariants as stages
 use Rattle.plain_disk.specs.Request.{is_read, is_write, is_flush, is_discard, is_ordered, is_barrier, is_open, is_finished, is_settled, are_settled, may_serve, sector_of}
 use Rattle.plain_disk.specs.Disk.{Disk, request_of}
-use Rattle.plain_disk.specs.Step.{is_in_order, may_hold, place_words, may_reply, is_status, is_next, are_noted}
+use Rattle.plain_disk.specs.Sector.{only, may_hold}
+use Rattle.plain_disk.specs.Step.{is_in_order, place_sector, may_reply, is_status, is_next, are_noted}
 use Rattle.request_check.specs.Rules.{is_any, may_fill, may_show, may_end, is_ordered_so, may_be_replied, may_be_answered, may_be_told, are_finished, keeps_effect, keeps_barrier, keeps_service, keeps_reply, keeps_answer, keeps_data, keeps_quiet}
 use Rattle.request_check.specs.Words.{words_in}
 use Rattle.request_check.specs.Progress.{Progress, progress_of}
@@ -106,10 +107,10 @@ module _ (g : Notes) (s : State) (d : Disk) (f : Follows g s d) where
   show_by id index words (Some r) found = by_stage (is_finished r.stage) refl
     where
       by_stage : (b : Bool) → is_finished r.stage ≡ b → may_show_now s id index words (open_in (g id) id (Some r)) ≡ may_show d id index words (Some r)
-      by_stage true is = rw is (sym (ap (λ (b : Bool). is_read r.submission && b && may_hold (place_words d.first d.written r.submission index) words) (shut_serves r d.done id index is)
-          ∙ ap (λ (b : Bool). b && may_hold (place_words d.first d.written r.submission index) words) (and_false (is_read r.submission))))
-      by_stage false is = rw is (ap (λ (b : Bool). is_read r.submission && b && may_hold (words_in s.sectors (sector_of r.submission + index)) words) (serve_same r (progress_of s.progress id) d.done id index (g id) (told_now id r found))
-          ∙ ap (λ (w : Option (List ℕ)). is_read r.submission && may_serve d.done id r index && may_hold w words) (f.sectors.words (sector_of r.submission + index)))
+      by_stage true is = rw is (sym (ap (λ (b : Bool). is_read r.submission && b && may_hold (place_sector d.first d.changes r.submission index).own words) (shut_serves r d.done id index is)
+          ∙ ap (λ (b : Bool). b && may_hold (place_sector d.first d.changes r.submission index).own words) (and_false (is_read r.submission))))
+      by_stage false is = rw is (ap (λ (b : Bool). is_read r.submission && b && may_hold (option_map only (words_in s.sectors (sector_of r.submission + index))) words) (serve_same r (progress_of s.progress id) d.done id index (g id) (told_now id r found))
+          ∙ ap (λ (w : Option (List (List ℕ))). is_read r.submission && may_serve d.done id r index && may_hold w words) (f.sectors.words (sector_of r.submission + index)))
 
   show_same : (id index : ℕ) (words : List ℕ) → may_show_now s id index words (open_of s.requests id) ≡ may_show d id index words (request_of d.requests id)
   show_same id index words = ap (may_show_now s id index words) (kept_of id) ∙ show_by id index words (request_of d.requests id) refl

@@ -9,7 +9,7 @@ use Rattle.std.proofs.lemmas.Option.{none-some}
 use Rattle.blk_base.specs.declared.config.Submission.{Submission}
 use Rattle.schedule_text.specs.declared.line.Line.{Line}
 use Rattle.plain_disk.specs.declared.request.DiskRequest.{DiskRequest}
-use Rattle.plain_disk.specs.declared.request.Written.{Written}
+use Rattle.plain_disk.specs.declared.request.Change.{Change}
 use Rattle.plain_disk.specs.declared.request.RequestStage.{RequestStage}
 use Rattle.plain_disk.specs.declared.request.RequestStage.TheVariants as stages
 use Rattle.plain_disk.specs.Request.{is_open, is_finished, is_done}
@@ -37,7 +37,7 @@ pub record Follows (g : Notes) (s : State) (d : Disk) : Type 0 where
   pub barriers : s.barriers ≡ sum_by (held barriers_of) d.requests
   pub most : s.barriers ≤ length d.requests
   pub doings : (id : ℕ) → IsTold (request_of d.requests id) (progress_of s.progress id) d.done id
-  pub sectors : SameWords s.sectors d.first d.written
+  pub sectors : SameWords s.sectors d.first d.changes
 
 pub follows_start : Follows (λ id. []) start (disk_of [])
 follows_start = record {
@@ -90,10 +90,10 @@ told_at : (d : Disk) (o : Option DiskRequest) (r : DiskRequest) (p : Progress) (
 told_at d o r p id found t = subst (λ (x : Option DiskRequest). IsTold x p d.done id) found t
 
 -- ---- a place was done
-pub place_kept : (g : Notes) (s : State) (d : Disk) (id index : ℕ) (r : DiskRequest) (sectors : Known) (written : List Written) → Follows g s d → request_of d.requests id ≡ Some r
-    → is_open r.stage ≡ true → is_done d.done id index ≡ false → SameWords sectors d.first written
-    → Follows g (record (with_progress s (with_done index) id) { sectors = sectors }) (record d { done = d.done ++ place id index ∷ []; written = written })
-place_kept g s d id index r sectors written f found waits new words = record {
+pub place_kept : (g : Notes) (s : State) (d : Disk) (id index : ℕ) (r : DiskRequest) (sectors : Known) (changes : List Change) → Follows g s d → request_of d.requests id ≡ Some r
+    → is_open r.stage ≡ true → is_done d.done id index ≡ false → SameWords sectors d.first changes
+    → Follows g (record (with_progress s (with_done index) id) { sectors = sectors }) (record d { done = d.done ++ place id index ∷ []; changes = changes })
+place_kept g s d id index r sectors changes f found waits new words = record {
   submitted = f.submitted;
   few = f.few;
   requests = f.requests;
@@ -120,12 +120,12 @@ place_kept g s d id index r sectors written f found waits new words = record {
     elsewhere k far = rw (changed_other (with_done index) s.progress id k far) (told_elsewhere (request_of d.requests k) (progress_of s.progress k) d.done id index k far (f.doings k))
 
 -- ---- a request's fault or reply
-pub change_kept : (g : Notes) (s : State) (d : Disk) (id : ℕ) (r new : DiskRequest) (change : Progress → Progress) (sectors : Known) (written : List Written) → Follows g s d → request_of d.requests id ≡ Some r
+pub change_kept : (g : Notes) (s : State) (d : Disk) (id : ℕ) (r new : DiskRequest) (change : Progress → Progress) (sectors : Known) (changes : List Change) → Follows g s d → request_of d.requests id ≡ Some r
     → is_open r.stage ≡ true → new.submission ≡ r.submission → new.stage ≡ r.stage
     → (SameDoings (progress_of s.progress id) r d.done id → SameDoings (change (progress_of s.progress id)) new d.done id)
-    → SameWords sectors d.first written
-    → Follows g (record (with_progress s change id) { sectors = sectors }) (record d { requests = with_request d.requests id new; written = written })
-change_kept g s d id r new change sectors written f found waits submission stage told words = record {
+    → SameWords sectors d.first changes
+    → Follows g (record (with_progress s change id) { sectors = sectors }) (record d { requests = with_request d.requests id new; changes = changes })
+change_kept g s d id r new change sectors changes f found waits submission stage told words = record {
   submitted = f.submitted ∙ sym (length_request d.requests id new);
   few = rw (length_request d.requests id new) f.few;
   requests = f.requests ∙ sym (opens_stay g d.requests id r new found submission stage);

@@ -14,8 +14,10 @@ use Rattle.plain_disk.specs.declared.request.RequestStage.{RequestStage}
 use Rattle.plain_disk.specs.declared.request.RequestStage.TheVariants as stages
 use Rattle.plain_disk.specs.Request as requests
 use Rattle.plain_disk.specs.Request.{is_read, is_write, is_flush, is_discard, is_ordered, is_open, is_finished, is_done, may_serve, places_of, filling}
+use Rattle.plain_disk.specs.declared.request.Change.TheVariants as change
+use Rattle.plain_disk.specs.Sector.{may_hold}
 use Rattle.plain_disk.specs.Disk.{Disk, request_of, noted_at}
-use Rattle.plain_disk.specs.Step.{step, submitted_of, effect_of, read_of, flushed_of, trimmed_of, fault_of, lost_of, replied_of, answered_of, data_of, epoch_of, place, served, one_sector, all_sectors, is_in_order, may_hold, place_words, may_reply, is_status, is_okay, told_stage, next_stage, is_next, are_noted, with_request}
+use Rattle.plain_disk.specs.Step.{step, submitted_of, effect_of, read_of, flushed_of, trimmed_of, fault_of, lost_of, replied_of, answered_of, data_of, epoch_of, place, served, one_sector, all_sectors, is_in_order, place_sector, may_reply, is_status, is_okay, told_stage, next_stage, is_next, are_noted, with_request}
 use Rattle.plain_disk.specs.Refusal.{frames_of}
 use Rattle.request_check.specs.Entries.{with_entry}
 use Rattle.request_check.specs.Progress.{with_fault, with_reply}
@@ -23,7 +25,7 @@ use Rattle.request_check.specs.Words.{words_left}
 use Rattle.request_check.specs.State.{State, discarded, open_of, submitted_to, filled, shown, flushed, trimmed, lost, failed, replied, answered, told, stepped}
 use Rattle.request_check.proofs.Opens.{Notes}
 use Rattle.request_check.proofs.Requests.{held}
-use Rattle.request_check.proofs.Sectors.{SameWords, same_single, same_range}
+use Rattle.request_check.proofs.Sectors.{SameWords, Sets, sets_filled, sets_spoiled, sets_showed, same_flushed, same_single, same_range}
 use Rattle.request_check.proofs.Follows.{Follows, open_found, unfinished, place_kept, change_kept, told_kept}
 use Rattle.request_check.proofs.NewNotes.{put, show_kept, submit_kept, epoch_kept}
 
@@ -60,12 +62,12 @@ open_undone false b c e n h = absurd (cc)
 serves : (done : List Place) (id : ℕ) (r : DiskRequest) (index : ℕ) → may_serve done id r index ≡ true → (is_open r.stage ≡ true) × (is_done done id index ≡ false)
 serves done id r index h = open_undone (is_open r.stage) (is_none r.reply) (not r.faulted) (nat_lt index (places_of r.submission)) (is_done done id index) h
 
-zeros_left : (submission : Submission) → is_discard submission ≡ true → Some (filling submission 0) ≡ words_left (discarded submission false)
-zeros_left (submissions.Read sector count) is = absurd (cc)
-zeros_left (submissions.Write sector count tag) is = absurd (cc)
-zeros_left (submissions.Barrier sector count tag) is = absurd (cc)
-zeros_left submissions.Flush is = absurd (cc)
-zeros_left (submissions.Discard sector count) is = refl
+sets_zeros : (submission : Submission) → is_discard submission ≡ true → Sets (all_sectors submission) (words_left (discarded submission false)) (change.Filled (all_sectors submission) (filling submission 0))
+sets_zeros (submissions.Read sector count) is = absurd (cc)
+sets_zeros (submissions.Write sector count tag) is = absurd (cc)
+sets_zeros (submissions.Barrier sector count tag) is = absurd (cc)
+sets_zeros submissions.Flush is = absurd (cc)
+sets_zeros (submissions.Discard sector count) is = sets_filled (all_sectors (submissions.Discard sector count)) (filling (submissions.Discard sector count) 0)
 
 moved : (g : Notes) (s : State) (d e : Disk) → d ≡ e → Follows g s d → HasFollowed s e
 moved g s d e same f = (g, subst (λ (x : Disk). Follows g s x) same f)
@@ -74,46 +76,46 @@ module _ (g : Notes) (s : State) (d e : Disk) (f : Follows g s d) where
   on_effect : (id index : ℕ) (o : Option DiskRequest) → request_of d.requests id ≡ o → effect_of d id index o ≡ Some e → HasFollowed (filled s id index (open_of s.requests id)) e
   on_effect id index None found is = absurd (none-some e is)
   on_effect id index (Some r) found is =
-      let both = cond_some (is_write r.submission && may_serve d.done id r index && is_in_order d id r) (served d (place id index) (one_sector r.submission index (Some (filling r.submission index)))) e is in
+      let both = cond_some (is_write r.submission && may_serve d.done id r index && is_in_order d id r) (served d (place id index) (change.Filled (one_sector r.submission index) (filling r.submission index))) e is in
       let at = serves d.done id r index (middle_of (is_write r.submission) (may_serve d.done id r index) (is_in_order d id r) both.0) in
-      rw (open_found g s d id r f found (unfinished r.stage at.0)) (moved g _ _ e both.1 (place_kept g s d id index r _ _ f found at.0 at.1 (same_single s.sectors d.first d.written r.submission index (Some (filling r.submission index)) f.sectors)))
+      rw (open_found g s d id r f found (unfinished r.stage at.0)) (moved g _ _ e both.1 (place_kept g s d id index r _ _ f found at.0 at.1 (same_single s.sectors d.first d.changes r.submission index (Some (filling r.submission index)) _ (sets_filled (one_sector r.submission index) (filling r.submission index)) f.sectors)))
 
   on_read : (id index : ℕ) (words : List ℕ) (o : Option DiskRequest) → request_of d.requests id ≡ o → read_of d id index words o ≡ Some e → HasFollowed (shown s id index words (open_of s.requests id)) e
   on_read id index words None found is = absurd (none-some e is)
   on_read id index words (Some r) found is =
-      let both = cond_some (is_read r.submission && may_serve d.done id r index && may_hold (place_words d.first d.written r.submission index) words)
-      (record (served d (place id index) (one_sector r.submission index (Some words))) { noted = d.noted ++ record { id = id; index = index; words = words } ∷ [] }) e is in
-      let at = serves d.done id r index (middle_of (is_read r.submission) (may_serve d.done id r index) (may_hold (place_words d.first d.written r.submission index) words) both.0) in
-      rw (open_found g s d id r f found (unfinished r.stage at.0)) (moved (put g id (with_entry (g id) index words)) _ _ e both.1 (show_kept g s d id index words r _ _ f found at.0 at.1 (same_single s.sectors d.first d.written r.submission index (Some words) f.sectors)))
+      let both = cond_some (is_read r.submission && may_serve d.done id r index && may_hold (place_sector d.first d.changes r.submission index).own words)
+      (record (served d (place id index) (change.Showed (one_sector r.submission index) words)) { noted = d.noted ++ record { id = id; index = index; words = words } ∷ [] }) e is in
+      let at = serves d.done id r index (middle_of (is_read r.submission) (may_serve d.done id r index) (may_hold (place_sector d.first d.changes r.submission index).own words) both.0) in
+      rw (open_found g s d id r f found (unfinished r.stage at.0)) (moved (put g id (with_entry (g id) index words)) _ _ e both.1 (show_kept g s d id index words r _ _ f found at.0 at.1 (same_single s.sectors d.first d.changes r.submission index (Some words) _ (sets_showed (one_sector r.submission index) words) f.sectors)))
 
   on_flush : (id : ℕ) (o : Option DiskRequest) → request_of d.requests id ≡ o → flushed_of d id o ≡ Some e → HasFollowed (flushed s id (open_of s.requests id)) e
   on_flush id None found is = absurd (none-some e is)
   on_flush id (Some r) found is =
-      let both = cond_some (is_flush r.submission && may_serve d.done id r 0) (record d { done = d.done ++ place id 0 ∷ [] }) e is in
+      let both = cond_some (is_flush r.submission && may_serve d.done id r 0) (served d (place id 0) change.Flushed) e is in
       let at = serves d.done id r 0 (second_of (is_flush r.submission) _ both.0) in
-      rw (open_found g s d id r f found (unfinished r.stage at.0)) (moved g _ _ e both.1 (place_kept g s d id 0 r s.sectors d.written f found at.0 at.1 f.sectors))
+      rw (open_found g s d id r f found (unfinished r.stage at.0)) (moved g _ _ e both.1 (place_kept g s d id 0 r s.sectors _ f found at.0 at.1 (same_flushed s.sectors d.first d.changes f.sectors)))
 
   on_trim : (id : ℕ) (o : Option DiskRequest) → request_of d.requests id ≡ o → trimmed_of d id o ≡ Some e → HasFollowed (trimmed s id (open_of s.requests id)) e
   on_trim id None found is = absurd (none-some e is)
   on_trim id (Some r) found is =
-      let both = cond_some (is_discard r.submission && may_serve d.done id r 0 && is_in_order d id r) (served d (place id 0) (all_sectors r.submission (Some (filling r.submission 0)))) e is in
+      let both = cond_some (is_discard r.submission && may_serve d.done id r 0 && is_in_order d id r) (served d (place id 0) (change.Filled (all_sectors r.submission) (filling r.submission 0))) e is in
       let at = serves d.done id r 0 (middle_of (is_discard r.submission) (may_serve d.done id r 0) (is_in_order d id r) both.0) in
-      rw (open_found g s d id r f found (unfinished r.stage at.0)) (moved g _ _ e both.1 (place_kept g s d id 0 r _ _ f found at.0 at.1 (same_range s.sectors d.first d.written r.submission false (Some (filling r.submission 0)) (zeros_left r.submission (first_of (is_discard r.submission) (may_serve d.done id r 0) (first_of (is_discard r.submission && may_serve d.done id r 0) (is_in_order d id r) both.0))) f.sectors)))
+      rw (open_found g s d id r f found (unfinished r.stage at.0)) (moved g _ _ e both.1 (place_kept g s d id 0 r _ _ f found at.0 at.1 (same_range s.sectors d.first d.changes r.submission false _ (sets_zeros r.submission (first_of (is_discard r.submission) (may_serve d.done id r 0) (first_of (is_discard r.submission && may_serve d.done id r 0) (is_in_order d id r) both.0))) f.sectors)))
 
-  lost_words : (submission : Submission) (index : ℕ) → SameWords (lost s.sectors submission index) d.first (lost_of d.written submission index)
+  lost_words : (submission : Submission) (index : ℕ) → SameWords (lost s.sectors submission index) d.first (lost_of d.changes submission index)
   lost_words submission index = by_kind (is_write submission) refl (is_discard submission) refl
     where
-      by_kind : (w : Bool) → is_write submission ≡ w → (t : Bool) → is_discard submission ≡ t → SameWords (lost s.sectors submission index) d.first (lost_of d.written submission index)
-      by_kind true is t so = rw is (same_single s.sectors d.first d.written submission index None f.sectors)
-      by_kind false is true so = rw (is, so) (same_range s.sectors d.first d.written submission true None refl f.sectors)
+      by_kind : (w : Bool) → is_write submission ≡ w → (t : Bool) → is_discard submission ≡ t → SameWords (lost s.sectors submission index) d.first (lost_of d.changes submission index)
+      by_kind true is t so = rw is (same_single s.sectors d.first d.changes submission index None _ (sets_spoiled (one_sector submission index)) f.sectors)
+      by_kind false is true so = rw (is, so) (same_range s.sectors d.first d.changes submission true _ (sets_spoiled (all_sectors submission)) f.sectors)
       by_kind false is false so = rw (is, so) f.sectors
 
   on_fault : (id index : ℕ) (o : Option DiskRequest) → request_of d.requests id ≡ o → fault_of d id index o ≡ Some e → HasFollowed (failed s id index (open_of s.requests id)) e
   on_fault id index None found is = absurd (none-some e is)
   on_fault id index (Some r) found is =
-      let both = cond_some (may_serve d.done id r index && (not (is_ordered r.submission) || is_in_order d id r)) (record d { requests = with_request d.requests id (record r { faulted = true }); written = lost_of d.written r.submission index }) e is in
+      let both = cond_some (may_serve d.done id r index && (not (is_ordered r.submission) || is_in_order d id r)) (record d { requests = with_request d.requests id (record r { faulted = true }); changes = lost_of d.changes r.submission index }) e is in
       let at = serves d.done id r index (first_of (may_serve d.done id r index) (not (is_ordered r.submission) || is_in_order d id r) both.0) in
-      rw (open_found g s d id r f found (unfinished r.stage at.0)) (moved g _ _ e both.1 (change_kept g s d id r (record r { faulted = true }) with_fault (lost s.sectors r.submission index) (lost_of d.written r.submission index) f found at.0 refl refl
+      rw (open_found g s d id r f found (unfinished r.stage at.0)) (moved g _ _ e both.1 (change_kept g s d id r (record r { faulted = true }) with_fault (lost s.sectors r.submission index) (lost_of d.changes r.submission index) f found at.0 refl refl
       (λ t. record { faulted = refl; reply = t.reply; places = t.places; count = t.count }) (lost_words r.submission index)))
 
   on_reply : (id : ℕ) (status : Status) (o : Option DiskRequest) → request_of d.requests id ≡ o → replied_of d id status o ≡ Some e → HasFollowed (replied s id status (open_of s.requests id)) e
@@ -121,7 +123,7 @@ module _ (g : Notes) (s : State) (d e : Disk) (f : Follows g s d) where
   on_reply id status (Some r) found is =
       let both = cond_some (is_open r.stage && is_none r.reply && may_reply d id r status) (record d { requests = with_request d.requests id (record r { reply = Some status }) }) e is in
       let waits : is_open r.stage ≡ true = first_of (is_open r.stage) (is_none r.reply) (first_of (is_open r.stage && is_none r.reply) (may_reply d id r status) both.0) in
-      rw (open_found g s d id r f found (unfinished r.stage waits)) (moved g _ _ e both.1 (change_kept g s d id r (record r { reply = Some status }) (with_reply status) s.sectors d.written f found waits refl refl
+      rw (open_found g s d id r f found (unfinished r.stage waits)) (moved g _ _ e both.1 (change_kept g s d id r (record r { reply = Some status }) (with_reply status) s.sectors d.changes f found waits refl refl
       (λ t. record { faulted = t.faulted; reply = refl; places = t.places; count = t.count }) f.sectors))
 
   shut_told : (submission : Submission) (status : Status) → is_open (told_stage submission status) ≡ false

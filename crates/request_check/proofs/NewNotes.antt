@@ -11,7 +11,7 @@ use Rattle.std.proofs.lemmas.List.Sums.{fold-append}
 use Rattle.blk_base.specs.declared.config.Submission.{Submission}
 use Rattle.plain_disk.specs.declared.request.DiskRequest.{DiskRequest}
 use Rattle.plain_disk.specs.declared.request.Noted.{Noted}
-use Rattle.plain_disk.specs.declared.request.Written.{Written}
+use Rattle.plain_disk.specs.declared.request.Change.{Change}
 use Rattle.plain_disk.specs.Request as requests
 use Rattle.plain_disk.specs.Request.{is_open, is_finished, is_done}
 use Rattle.plain_disk.specs.Disk.{Disk, request_of, noted_at}
@@ -59,12 +59,12 @@ noted_other_place noted id index words j far = noted_more noted id index words i
 noted_here : (noted : List Noted) (id index : ℕ) (words : List ℕ) → noted_at (noted ++ record { id = id; index = index; words = words } ∷ []) id index ≡ Some words
 noted_here noted id index words = noted_more noted id index words id index ∙ rw (is_same id, is_same index) refl
 
-pub show_kept : (g : Notes) (s : State) (d : Disk) (id index : ℕ) (words : List ℕ) (r : DiskRequest) (sectors : Known) (written : List Written) → Follows g s d → request_of d.requests id ≡ Some r
-    → is_open r.stage ≡ true → is_done d.done id index ≡ false → SameWords sectors d.first written
+pub show_kept : (g : Notes) (s : State) (d : Disk) (id index : ℕ) (words : List ℕ) (r : DiskRequest) (sectors : Known) (changes : List Change) → Follows g s d → request_of d.requests id ≡ Some r
+    → is_open r.stage ≡ true → is_done d.done id index ≡ false → SameWords sectors d.first changes
     → Follows (put g id (with_entry (g id) index words)) (record (with_open (with_progress s (with_done index) id) id (with_note (open_as id r (g id)) index words)) { sectors = sectors })
-    (record d { done = d.done ++ place id index ∷ []; written = written; noted = d.noted ++ record { id = id; index = index; words = words } ∷ [] })
-show_kept g s d id index words r sectors written f found waits new known =
-    let p = place_kept g s d id index r sectors written f found waits new known in
+    (record d { done = d.done ++ place id index ∷ []; changes = changes; noted = d.noted ++ record { id = id; index = index; words = words } ∷ [] })
+show_kept g s d id index words r sectors changes f found waits new known =
+    let p = place_kept g s d id index r sectors changes f found waits new known in
     record {
       submitted = p.submitted;
       few = p.few;

@@ -12,7 +12,8 @@ use Rattle.plain_disk.specs.declared.request.DiskRequest.{DiskRequest}
 use Rattle.plain_disk.specs.declared.sight.Sight.{Sight}
 use Rattle.plain_disk.specs.Request.{is_read, is_write, is_flush, is_discard, is_ordered, is_open, is_finished, may_serve}
 use Rattle.plain_disk.specs.Disk.{Disk, disk_of, request_of, noted_at}
-use Rattle.plain_disk.specs.Step.{after, is_in_order, place_words, may_hold, may_reply, is_status, is_next, are_noted}
+use Rattle.plain_disk.specs.Sector.{may_hold}
+use Rattle.plain_disk.specs.Step.{after, is_in_order, place_sector, may_reply, is_status, is_next, are_noted}
 use Rattle.plain_disk.specs.Refusal.{nothing_seen, seen, refusal_of, requests_in}
 
 -- the disk after these lines, where they are a run
@@ -75,7 +76,7 @@ may_fill d id index (Some r) = is_write r.submission && may_serve d.done id r in
 -- a sector of a read may show these words now
 abbrev pub may_show : Disk → ℕ → ℕ → List ℕ → Option DiskRequest → Bool
 may_show d id index words None = false
-may_show d id index words (Some r) = is_read r.submission && may_serve d.done id r index && may_hold (place_words d.first d.written r.submission index) words
+may_show d id index words (Some r) = is_read r.submission && may_serve d.done id r index && may_hold (place_sector d.first d.changes r.submission index).own words
 
 abbrev pub keeps_effect : Disk → Line → Bool
 keeps_effect d (lines.Effect id index) = may_fill d id index (request_of d.requests id)

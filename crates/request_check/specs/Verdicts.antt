@@ -1,5 +1,5 @@
 -- What the state says of the next line: whether it keeps each of the rules on requests (`io/blkif.h`, `io/xenbus.h`).
-use Rattle.std.specs.Prelude.{ℕ, ◌+◌, ◌*◌, ◌^◌, max, min, Bool, true, false, not, ◌&&◌, ◌||◌, ◌==◌, nat_le, nat_lt, is_none, is_some, List, length, Option, Some, None, if◌then◌else◌}
+use Rattle.std.specs.Prelude.{ℕ, ◌+◌, ◌*◌, ◌^◌, max, min, Bool, true, false, not, ◌&&◌, ◌||◌, ◌==◌, nat_le, nat_lt, is_none, is_some, List, length, Option, Some, None, option_map, if◌then◌else◌}
 use Rattle.std.specs.List.{list_all}
 use Rattle.std.specs.Map.{values_of}
 use Rattle.blk_base.specs.Options.{Options}
@@ -12,7 +12,8 @@ use Rattle.blk_base.specs.declared.refusal.Refusal.TheVariants as refusal
 use Rattle.schedule_text.specs.declared.line.Line.{Line}
 use Rattle.schedule_text.specs.declared.line.Line.TheVariants as lines
 use Rattle.plain_disk.specs.Request.{is_read, is_write, is_barrier, is_flush, is_discard, is_ordered, is_open, places_of, sector_of}
-use Rattle.plain_disk.specs.Step.{may_hold, is_status, is_next, are_noted}
+use Rattle.plain_disk.specs.Sector.{only, may_hold}
+use Rattle.plain_disk.specs.Step.{is_status, is_next, are_noted}
 use Rattle.plain_disk.specs.Refusal.{is_unsupported, is_refused_write, is_past_end, is_long, frames_of}
 use Rattle.request_check.specs.Rules.{is_any, is_gone}
 use Rattle.request_check.specs.Entries.{entry_at}
@@ -105,7 +106,7 @@ may_end_now is_kind s id index (Some o) = is_kind o.submission && may_serve_now 
 
 abbrev pub may_show_now : State → ℕ → ℕ → List ℕ → Option Open → Bool
 may_show_now s id index words None = false
-may_show_now s id index words (Some o) = is_read o.submission && may_serve_now o (progress_of s.progress id) index && may_hold (words_in s.sectors (sector_of o.submission + index)) words
+may_show_now s id index words (Some o) = is_read o.submission && may_serve_now o (progress_of s.progress id) index && may_hold (option_map only (words_in s.sectors (sector_of o.submission + index))) words
 
 abbrev pub allows_effect : State → Line → Bool
 allows_effect s (lines.Effect id index) = may_end_now is_write s id index (open_of s.requests id)

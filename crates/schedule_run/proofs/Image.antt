@@ -23,6 +23,7 @@ use Rattle.schedule_text.specs.declared.line.Line.TheVariants as lines
 use Rattle.schedule_text.specs.Recorder.{recorded, kept_of}
 use Rattle.plain_disk.specs.Honest.{is_honest, IsHonest}
 use Rattle.plain_disk.specs.Disk.{disk_of}
+use Rattle.pipeline_laws.proofs.Content.{known_first}
 use Rattle.pipeline_laws.specs.Run.{IsRun}
 use Rattle.pipeline_laws.specs.Effects.{IsOfADisk}
 use Rattle.split_model.specs.World as rings
@@ -283,7 +284,7 @@ nothing_image config before now long same = record {
   where
     at : (content : Option (List (List ℕ))) → HasLength content config.sectors → IsRun config.sectors content content []
     at None sized = record { first = []; begins = refl; disk = disk_of []; run = refl; kept = tt }
-    at (Some content) sized = record { first = content; begins = refl; disk = disk_of content; run = refl; kept = record { sized = sized; known = λ i words is. is } }
+    at (Some content) sized = record { first = content; begins = refl; disk = disk_of content; run = refl; kept = record { sized = sized; known = known_first content content (λ i words is. is) } }
 
 -- of a report with some lines more, of which one tells of a call at most
 more_image : (config : Options) (detail : Detail) (jobs : List Submission) (before now : Option (List (List ℕ))) (report more all : List Line) → report ++ more ≡ all → AreFew more → IsLawful config detail jobs before now all → IsHonest report → IsOneCallPast config.sectors before now report

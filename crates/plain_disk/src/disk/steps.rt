@@ -6,8 +6,8 @@ ghost use Rattle.plain_disk.specs.Step.{submitted_of, effect_of, read_of, flushe
 ghost use Rattle.plain_disk.specs.Stands.{Steps};
 
 use super::{PlainDisk, Stand};
-use crate::looking;
-use crate::request::{DiskRequest, Noted, Place, RequestStage, Written};
+use crate::request::{Change, DiskRequest, Extent, Noted, Place, RequestStage};
+use crate::{looking, sectors};
 use blk_base::{OutOfMemory, SectorWords, Status, Submission};
 
 impl PlainDisk {
@@ -39,12 +39,12 @@ impl PlainDisk {
         )
     }
 
-    // Notes a place as done, and what its sectors hold from now on.
-    fn serve(&mut self, place: Place, written: Written) -> Result<(), OutOfMemory>
-        ensures served { Becomes (served self.old place written) result self.old self.new }
+    // Notes a place as done, and what happened to sectors.
+    fn serve(&mut self, place: Place, change: Change) -> Result<(), OutOfMemory>
+        ensures served { Becomes (served self.old place change) result self.old self.new }
     {
         self.done.push(place)?;
-        match self.written.push(written) {
+        match self.changes.push(change) {
             Ok(()) => Ok(()),
             Err(_) => {
                 let _ = self.done.pop();
@@ -66,10 +66,8 @@ impl PlainDisk {
             return Ok(Stand::Falls);
         }
         let words = looking::filling(&r.submission, index);
-        self.serve(
-            Place { id, index },
-            one_sector(&r.submission, index, Some(words)),
-        )?;
+        let at = one_sector(&r.submission, index);
+        self.serve(Place { id, index }, Change::Filled { at, words })?;
         Ok(Stand::Stands)
     }
 
@@ -84,23 +82,21 @@ impl PlainDisk {
         let Some(r) = looking::request_of(self.requests.as_slice(), id) else {
             return Ok(Stand::Falls);
         };
-        let at = looking::place_words(
+        let known = sectors::place_words(
             self.first.as_slice(),
-            self.written.as_slice(),
+            self.changes.as_slice(),
             &r.submission,
             index,
         );
         if !looking::is_read(&r.submission)
             || !looking::may_serve(self.done.as_slice(), id, &r, index)
-            || !looking::may_hold(&at, &words)
+            || !sectors::may_hold(&known, &words)
         {
             return Ok(Stand::Falls);
         }
         self.noted.push(Noted { id, index, words })?;
-        match self.serve(
-            Place { id, index },
-            one_sector(&r.submission, index, Some(words)),
-        ) {
+        let at = one_sector(&r.submission, index);
+        match self.serve(Place { id, index }, Change::Showed { at, words }) {
             Ok(()) => Ok(Stand::Stands),
             Err(OutOfMemory) => {
                 let _ = self.noted.pop();
@@ -120,7 +116,7 @@ impl PlainDisk {
         {
             return Ok(Stand::Falls);
         }
-        self.done.push(Place { id, index: 0 })?;
+        self.serve(Place { id, index: 0 }, Change::Flushed)?;
         Ok(Stand::Stands)
     }
 
@@ -137,10 +133,8 @@ impl PlainDisk {
             return Ok(Stand::Falls);
         }
         let words = looking::filling(&r.submission, 0);
-        self.serve(
-            Place { id, index: 0 },
-            all_sectors(&r.submission, Some(words)),
-        )?;
+        let at = all_sectors(&r.submission);
+        self.serve(Place { id, index: 0 }, Change::Filled { at, words })?;
         Ok(Stand::Stands)
     }
 
@@ -156,9 +150,11 @@ impl PlainDisk {
             return Ok(Stand::Falls);
         }
         if looking::is_write(&r.submission) {
-            self.written.push(one_sector(&r.submission, index, None))?;
+            let at = one_sector(&r.submission, index);
+            self.changes.push(Change::Spoiled { at })?;
         } else if looking::is_discard(&r.submission) {
-            self.written.push(all_sectors(&r.submission, None))?;
+            let at = all_sectors(&r.submission);
+            self.changes.push(Change::Spoiled { at })?;
         }
         self.requests[(id - 1) as usize].faulted = true;
         Ok(Stand::Stands)
@@ -241,27 +237,25 @@ impl PlainDisk {
     }
 }
 
-// What the sector of a request's place holds from now on.
-fn one_sector(submission: &Submission, index: u32, words: Option<SectorWords>) -> Written
-    ensures { result ≡ one_sector submission.now index words }
+// The sector of a request's place.
+fn one_sector(submission: &Submission, index: u32) -> Extent
+    ensures { result ≡ one_sector submission.now index }
 {
-    Written {
+    Extent {
         sector: looking::sector_of(submission),
         from: index,
         count: 1,
-        words,
     }
 }
 
-// What all sectors of a request hold from now on.
-fn all_sectors(submission: &Submission, words: Option<SectorWords>) -> Written
-    ensures { result ≡ all_sectors submission.now words }
+// All sectors of a request.
+fn all_sectors(submission: &Submission) -> Extent
+    ensures { result ≡ all_sectors submission.now }
 {
-    Written {
+    Extent {
         sector: looking::sector_of(submission),
         from: 0,
         count: looking::count_of(submission),
-        words,
     }
 }
 
