@@ -1,5 +1,6 @@
 -- What the calls of a back's negotiation make of it: it takes the terms of its front only where it waits for them, and halts only between two steps.
 use Rattle.std.proofs.Common.{◌≡◌, ℕ, ◌^◌, ◌≤◌, Bool, true, false, if◌then◌else◌, List, length, refl, ap, arith}
+use Rattle.blk_base.specs.declared.parts.Mapping.{Mapping}
 use Rattle.std.specs.Prelude.{Some, ◌&&◌, ◌==◌, nat_le}
 use Rattle.std.proofs.Math.Nat.{pow-le-pow_right}
 use Rattle.std.proofs.lemmas.Bool.Decides.{nat_tests}
@@ -9,6 +10,7 @@ use Rattle.blk_back.specs.declared.stage.BackStage.TheVariants as stage
 use Rattle.blk_base.specs.declared.halt.Halt.{Halt}
 use Rattle.blk_back.specs.View.{View}
 use Rattle.blk_back.specs.Ask.{is_led}
+use Rattle.blk_back.specs.Keeping.{is_attached, may_keep_most}
 use Rattle.blk_back.specs.Step.{unbound, halts_at, may_halt, halts, abort, may_attach, attached, attaches}
 
 -- it waits for the terms of its front, or maps the ring
@@ -81,3 +83,18 @@ attaches_cases P shape grefs port v takes none = by_test (may_attach shape grefs
     by_test : (b : Bool) → may_attach shape grefs v ≡ b → P (if b then attached shape grefs port v else v)
     by_test true may = takes may
     by_test false may = none
+
+-- how many mappings a back may keep is said once it has its terms: at most 1000
+is_mapping : (s : BackStage) (pages : List Mapping) → is_attached s pages ≡ true → s ≡ stage.MapRing
+is_mapping stage.MapRing pages attached = refl
+is_mapping s pages attached = absurd (cc)
+
+both_of : (a b : Bool) → (a && b) ≡ true → (a ≡ true) × (b ≡ true)
+both_of true b h = (refl, h)
+both_of false b h = absurd (cc)
+
+pub keeps_mapping : (cap : ℕ) (v : View) → may_keep_most cap v ≡ true → v.stage ≡ stage.MapRing
+keeps_mapping cap v may = is_mapping v.stage v.pages (both_of (is_attached v.stage v.pages) (nat_le cap 1000) may).0
+
+pub keeps_at_most : (cap : ℕ) (v : View) → may_keep_most cap v ≡ true → cap ≤ 1000
+keeps_at_most cap v may = let few = (both_of (is_attached v.stage v.pages) (nat_le cap 1000) may).1 in grind (arith, nat_tests)

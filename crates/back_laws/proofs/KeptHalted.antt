@@ -1,6 +1,6 @@
 -- A back whose jobs keep mappings stays halted once it has, and its jobs ask for nothing then.
 use Rattle.std.proofs.Common.{◌≡◌, ℕ, ◌+◌, Bool, true, false, if◌then◌else◌, List, [], ◌∷◌, ◌++◌, refl, sym, ap, ◌∙◌}
-use Rattle.std.specs.Prelude.{Option, Some, None, is_some, nat_le, ◌==◌}
+use Rattle.std.specs.Prelude.{Option, Some, None, is_some, ◌==◌}
 use Rattle.std.proofs.lemmas.Bool.{false≢true}
 use Rattle.blk_base.specs.declared.ask.BackAsk.TheVariants as ask
 use Rattle.blk_base.specs.declared.ask.BackAnswer.{BackAnswer}
@@ -15,12 +15,11 @@ use Rattle.blk_back.specs.declared.stage.BackStage.{BackStage}
 use Rattle.blk_back.specs.declared.stage.BackStage.TheVariants as stage
 use Rattle.blk_back.specs.View.{View}
 use Rattle.blk_back.specs.Ask.{next_reply}
-use Rattle.blk_back.specs.Step.{other_pages, may_halt, may_attach, overrun, looked, fetched}
-use Rattle.blk_back.specs.Keeping.{halts_keeping_at, may_attach_keeping, attached_keeping, overrun_keeping, looked_keeping, loop_step_keeping, fetched_keeping, fetch_step_keeping, step_keeping_at}
-use Rattle.back_laws.specs.Kept.{KeptHappening, Answers, AnswersJob, TakesTold, Attaches, Halts, happened, after, begins, now, StaysHalted, NoJobGoesOn}
+use Rattle.blk_back.specs.Step.{other_pages, may_halt, may_attach, attached, overrun, looked, fetched}
+use Rattle.blk_back.specs.Keeping.{halts_keeping_at, may_keep_most, keeping_most, overrun_keeping, looked_keeping, loop_step_keeping, fetched_keeping, fetch_step_keeping, step_keeping_at}
+use Rattle.back_laws.specs.Kept.{KeptHappening, Answers, AnswersJob, TakesTold, Attaches, Keeps, Halts, happened, after, begins, now, StaysHalted, NoJobGoesOn}
 use Rattle.back_laws.proofs.Calls.{attaches_waiting}
 use Rattle.back_laws.proofs.Halted.{is_over, IsOver, giving_over, unbound_over, bound_over, step_over, none_halted}
-use Rattle.back_laws.proofs.Tidy.{left_of}
 
 -- it has halted only at a stage after a halt
 abbrev Goes : View → Type 0
@@ -93,19 +92,17 @@ halts_goes_at stage.MapRing why v g = closes (halts_keeping_at stage.MapRing why
 halts_goes_at stage.Loop why v g = closes (halts_keeping_at stage.Loop why v) (giving_over (first_given v.jobs))
 halts_goes_at s why v g = g
 
--- terms are taken only by one that waits for them
-waits_still : (shape : Shape) (grefs : List ℕ) (cap : ℕ) (v : View) → may_attach_keeping shape grefs cap v ≡ true → v.stage ≡ stage.InitWait
-waits_still shape grefs cap v may = attaches_waiting shape grefs v (left_of (may_attach shape grefs v) (nat_le cap 1000) may)
-
-attaches_goes : (b : Bool) (shape : Shape) (grefs : List ℕ) (port cap : ℕ) (v : View) → may_attach_keeping shape grefs cap v ≡ b → Goes v → Goes (if b then attached_keeping shape grefs port cap v else v)
-attaches_goes true shape grefs port cap v may g = λ ongoing. before stage.InitWait v (waits_still shape grefs cap v may) refl g
-attaches_goes false shape grefs port cap v may g = g
+-- terms are taken only by one that waits for them, and how many mappings may be kept is said after that
+attaches_goes : (b : Bool) (shape : Shape) (grefs : List ℕ) (port : ℕ) (v : View) → may_attach shape grefs v ≡ b → Goes v → Goes (if b then attached shape grefs port v else v)
+attaches_goes true shape grefs port v may g = λ ongoing. before stage.InitWait v (attaches_waiting shape grefs v may) refl g
+attaches_goes false shape grefs port v may g = g
 
 happened_goes : (h : KeptHappening) (v : View) → Goes v → Goes (happened h v)
 happened_goes (Answers given) v g = step_goes_at v.stage v given refl g
 happened_goes (AnswersJob number given) v g = g
 happened_goes TakesTold v g = g
-happened_goes (Attaches shape grefs port cap) v g = attaches_goes (may_attach_keeping shape grefs cap v) shape grefs port cap v refl g
+happened_goes (Attaches shape grefs port) v g = attaches_goes (may_attach shape grefs v) shape grefs port v refl g
+happened_goes (Keeps cap) v g = either (may_keep_most cap v) (keeping_most cap v) v g g
 happened_goes (Halts why) v g = either (may_halt why) (halts_keeping_at v.stage why v) v (halts_goes_at v.stage why v g) g
 
 goes_after : (hs : List KeptHappening) (v : View) → Goes v → Goes (after hs v)
@@ -131,15 +128,16 @@ if_over : (b : Bool) (x y : View) (halted : Option Halt) → IsOver halted x →
 if_over true x y halted p q = p
 if_over false x y halted p q = q
 
-attaches_over : (b : Bool) (shape : Shape) (grefs : List ℕ) (port cap : ℕ) (v : View) (halted : Option Halt) → may_attach_keeping shape grefs cap v ≡ b → IsOver halted v → IsOver halted (if b then attached_keeping shape grefs port cap v else v)
-attaches_over true shape grefs port cap v halted may o = let ongoing : is_over v.stage ≡ false = ap is_over (waits_still shape grefs cap v may) in absurd (false≢true (sym ongoing ∙ o.over))
-attaches_over false shape grefs port cap v halted may o = o
+attaches_over : (b : Bool) (shape : Shape) (grefs : List ℕ) (port : ℕ) (v : View) (halted : Option Halt) → may_attach shape grefs v ≡ b → IsOver halted v → IsOver halted (if b then attached shape grefs port v else v)
+attaches_over true shape grefs port v halted may o = let ongoing : is_over v.stage ≡ false = ap is_over (attaches_waiting shape grefs v may) in absurd (false≢true (sym ongoing ∙ o.over))
+attaches_over false shape grefs port v halted may o = o
 
 happened_over : (h : KeptHappening) (v : View) (halted : Option Halt) → IsOver halted v → IsOver halted (happened h v)
 happened_over (Answers given) v halted o = step_over_keeping v.stage v given halted refl o.over o.same
 happened_over (AnswersJob number given) v halted o = record { over = o.over; same = o.same }
 happened_over TakesTold v halted o = record { over = o.over; same = o.same }
-happened_over (Attaches shape grefs port cap) v halted o = attaches_over (may_attach_keeping shape grefs cap v) shape grefs port cap v halted refl o
+happened_over (Attaches shape grefs port) v halted o = attaches_over (may_attach shape grefs v) shape grefs port v halted refl o
+happened_over (Keeps cap) v halted o = if_over (may_keep_most cap v) (keeping_most cap v) v halted (record { over = o.over; same = o.same }) o
 happened_over (Halts why) v halted o = if_over (may_halt why) (halts_keeping_at v.stage why v) v halted (halts_over_at v.stage why v halted o.over o) o
 
 over_after : (hs : List KeptHappening) (v : View) (halted : Option Halt) → IsOver halted v → (after hs v).halted ≡ halted

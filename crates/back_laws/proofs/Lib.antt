@@ -24,5 +24,5 @@ pub mod PageSteps
 pub mod JobWork
 pub mod PageWork
 pub mod PageRefused
-mod Tidy
+pub mod Tidy
 mod KeptHalted

@@ -1,7 +1,6 @@
 -- A back whose jobs keep mappings keeps as many as it may, and none before its port is bound and once all but the ring's pages are unmapped.
-use Rattle.std.proofs.Common.{◌≡◌, ℕ, ◌+◌, ◌≤◌, Bool, true, false, ◌&&◌, if◌then◌else◌, List, [], ◌∷◌, ◌++◌, length, refl, subst, arith}
-use Rattle.std.specs.Prelude.{Option, Some, None, is_some, IsPermutation, nat_le, nat_lt, ◌==◌}
-use Rattle.std.proofs.lemmas.Bool.Decides.{nat_tests}
+use Rattle.std.proofs.Common.{◌≡◌, ℕ, ◌+◌, ◌≤◌, Bool, true, false, if◌then◌else◌, List, [], ◌∷◌, ◌++◌, length, refl, subst, arith}
+use Rattle.std.specs.Prelude.{Option, Some, None, is_some, IsPermutation, nat_lt, ◌==◌}
 use Rattle.std.proofs.lemmas.List.Sorted.{IsPermutation-refl}
 use Rattle.blk_base.specs.declared.parts.Mapping.{Mapping}
 use Rattle.blk_base.specs.declared.ask.BackAsk.TheVariants as ask
@@ -13,7 +12,7 @@ use Rattle.ring_words.specs.Shape.{Shape, entry_words_of}
 use Rattle.ring_words.specs.Ring.{requests_of, overruns, notifies}
 use Rattle.blk_layout.specs.Entry.{request_of}
 use Rattle.back_jobs.specs.Work.{IsAnswer as IsJobAnswer}
-use Rattle.back_jobs.specs.Hands.{hands_in, HandsKeep}
+use Rattle.back_jobs.specs.Hands.{HandsKeep}
 use Rattle.back_jobs.specs.Keeping.{ask_keeping, all_hands, first_given, after_given}
 use Rattle.back_jobs.proofs.Bounds.{AreFew, started_few, started_cap, told_few, told_cap, given_few, given_cap, given_none, given_over}
 use Rattle.back_jobs.proofs.Entire.{told_entire}
@@ -22,26 +21,14 @@ use Rattle.blk_back.specs.declared.stage.BackStage.{BackStage}
 use Rattle.blk_back.specs.declared.stage.BackStage.TheVariants as stage
 use Rattle.blk_back.specs.View.{View}
 use Rattle.blk_back.specs.Ask.{next_reply}
-use Rattle.blk_back.specs.Step.{unmapping_next, unbound, bound, other_pages, may_halt, may_attach, overrun, looked, next_number, fetched}
-use Rattle.blk_back.specs.Keeping.{abort_keeping, halts_keeping_at, may_attach_keeping, attached_keeping, overrun_keeping, looked_keeping, loop_word_keeping, loop_step_keeping, fetched_keeping, fetch_step_keeping, step_keeping_at, job_step_keeping}
+use Rattle.blk_back.specs.Step.{unmapping_next, unbound, bound, other_pages, may_halt, may_attach, attached, overrun, looked, next_number, fetched}
+use Rattle.blk_back.specs.Keeping.{abort_keeping, halts_keeping_at, may_keep_most, keeping_most, overrun_keeping, looked_keeping, loop_word_keeping, loop_step_keeping, fetched_keeping, fetch_step_keeping, step_keeping_at, job_step_keeping}
 use Rattle.blk_back.specs.Sound.{HasNothing, IsCleared}
 use Rattle.blk_back.specs.Hands.{aborted, all_hands_at, all_hands_of}
 use Rattle.blk_back.proofs.Keeping.{hands_keep, job_keep, abort_entire}
 use Rattle.blk_back.proofs.Sound.{told_cleared}
-use Rattle.back_laws.specs.Kept.{KeptHappening, Answers, AnswersJob, TakesTold, Attaches, Halts, happened, MayHappen, after, KeepingRun, begins, now, KeepsFew, HoldsAfter, LosesNone, LeavesNone}
-use Rattle.back_laws.proofs.Calls.{attaches_waiting}
-
--- once the port is closed no page of the ring is mapped
-abbrev IsEmptied : BackStage → List Mapping → Type 0
-IsEmptied stage.ClosePort pages = length pages ≡ 0
-IsEmptied stage.Halted pages = length pages ≡ 0
-IsEmptied s pages = Unit {0}
-
-record IsTidy (v : View) : Type 0 where
-  few : AreFew v.jobs.kept
-  cap : v.jobs.kept.cap ≤ 1000
-  cleared : IsCleared v.stage v.jobs
-  emptied : IsEmptied v.stage v.pages
+use Rattle.back_laws.specs.Kept.{KeptHappening, Answers, AnswersJob, TakesTold, Attaches, Keeps, Halts, happened, MayHappen, after, KeepingRun, begins, now, KeepsFew, HoldsAfter, LosesNone, LeavesNone, IsEmptied, IsTidy}
+use Rattle.back_laws.proofs.Calls.{attaches_waiting, keeps_mapping, keeps_at_most}
 
 either : (b : Bool) (x y : View) → IsTidy x → IsTidy y → IsTidy (if b then x else y)
 either true x y p q = p
@@ -137,27 +124,20 @@ halts_tidy_at stage.MapRing why v none t = let u = unbound_tidy v.pages v none t
 halts_tidy_at stage.Loop why v none t = abort_tidy_at (first_given v.jobs) (record v { halted = Some why }) refl t.few t.cap
 halts_tidy_at s why v none t = t
 
--- of terms that it takes
-pub left_of : (a b : Bool) → (a && b) ≡ true → a ≡ true
-left_of true b h = refl
-left_of false b h = absurd (cc)
+-- terms that it takes, and how many mappings it may keep
+attaches_tidy : (b : Bool) (shape : Shape) (grefs : List ℕ) (port : ℕ) (v : View) → may_attach shape grefs v ≡ b → IsTidy v → IsTidy (if b then attached shape grefs port v else v)
+attaches_tidy true shape grefs port v may t =
+    record { few = t.few; cap = t.cap; cleared = subst (λ (s : BackStage). IsCleared s v.jobs) (attaches_waiting shape grefs v may) t.cleared; emptied = tt }
+attaches_tidy false shape grefs port v may t = t
 
-right_of : (a b : Bool) → (a && b) ≡ true → b ≡ true
-right_of true b h = h
-right_of false b h = absurd (cc)
+keeps_tidy : (b : Bool) (cap : ℕ) (v : View) → may_keep_most cap v ≡ b → IsTidy v → IsTidy (if b then keeping_most cap v else v)
+keeps_tidy true cap v may t =
+    let here = keeps_mapping cap v may in
+    let nothing : HasNothing v.jobs = subst (λ (s : BackStage). IsCleared s v.jobs) here t.cleared in
+    record { few = omega (arith, nothing.1); cap = keeps_at_most cap v may; cleared = rw here nothing; emptied = rw here tt }
+keeps_tidy false cap v may t = t
 
-waited_nothing : (shape : Shape) (grefs : List ℕ) (cap : ℕ) (v : View) → may_attach_keeping shape grefs cap v ≡ true → IsTidy v → HasNothing v.jobs
-waited_nothing shape grefs cap v may t =
-    subst (λ (s : BackStage). IsCleared s v.jobs) (attaches_waiting shape grefs v (left_of (may_attach shape grefs v) (nat_le cap 1000) may)) t.cleared
-
-attaches_tidy : (b : Bool) (shape : Shape) (grefs : List ℕ) (port cap : ℕ) (v : View) → may_attach_keeping shape grefs cap v ≡ b → IsTidy v → IsTidy (if b then attached_keeping shape grefs port cap v else v)
-attaches_tidy true shape grefs port cap v may t =
-    let range = right_of (may_attach shape grefs v) (nat_le cap 1000) may in
-    let within : cap ≤ 1000 = grind (arith, nat_tests) in
-    record { few = omega arith; cap = within; cleared = ((waited_nothing shape grefs cap v may t).0, refl); emptied = tt }
-attaches_tidy false shape grefs port cap v may t = t
-
-happened_tidy : (h : KeptHappening) (v : View) → IsTidy v → IsTidy (happened h v)
+pub happened_tidy : (h : KeptHappening) (v : View) → IsTidy v → IsTidy (happened h v)
 happened_tidy (Answers given) v t = step_tidy_at v.stage v given t.cleared t.emptied t
 happened_tidy (AnswersJob number given) v t = record {
   few = told_few v.jobs number given t.few;
@@ -166,7 +146,8 @@ happened_tidy (AnswersJob number given) v t = record {
   emptied = t.emptied;
 }
 happened_tidy TakesTold v t = record { few = t.few; cap = t.cap; cleared = t.cleared; emptied = t.emptied }
-happened_tidy (Attaches shape grefs port cap) v t = attaches_tidy (may_attach_keeping shape grefs cap v) shape grefs port cap v refl t
+happened_tidy (Attaches shape grefs port) v t = attaches_tidy (may_attach shape grefs v) shape grefs port v refl t
+happened_tidy (Keeps cap) v t = keeps_tidy (may_keep_most cap v) cap v refl t
 happened_tidy (Halts why) v t = either (may_halt why) (halts_keeping_at v.stage why v) v (halts_tidy_at v.stage why v t.cleared t) t
 
 tidy_after : (hs : List KeptHappening) (v : View) → IsTidy v → IsTidy (after hs v)
@@ -200,12 +181,13 @@ module _ {X : Type 0} where
   none_in [] none = refl
   none_in (x ∷ l) none = absurd (omega arith)
 
-attaches_entire : (b : Bool) (shape : Shape) (grefs : List ℕ) (port cap : ℕ) (v : View) → may_attach_keeping shape grefs cap v ≡ b → IsTidy v → IsPermutation (all_hands_of v) (all_hands_of (if b then attached_keeping shape grefs port cap v else v))
-attaches_entire true shape grefs port cap v may t =
-    let here : v.stage ≡ stage.InitWait = attaches_waiting shape grefs v (left_of (may_attach shape grefs v) (nat_le cap 1000) may) in
-    let none : v.jobs.kept.entries ≡ [] = none_in v.jobs.kept.entries (waited_nothing shape grefs cap v may t).1 in
-    rw (here, none) (IsPermutation-refl ((hands_in v.jobs.works ++ []) ++ v.pages))
-attaches_entire false shape grefs port cap v may t = IsPermutation-refl (all_hands_of v)
+attaches_entire : (b : Bool) (shape : Shape) (grefs : List ℕ) (port : ℕ) (v : View) → may_attach shape grefs v ≡ b → IsPermutation (all_hands_of v) (all_hands_of (if b then attached shape grefs port v else v))
+attaches_entire true shape grefs port v may = rw (attaches_waiting shape grefs v may) (IsPermutation-refl (all_hands v.jobs ++ v.pages))
+attaches_entire false shape grefs port v may = IsPermutation-refl (all_hands_of v)
+
+keeps_entire : (b : Bool) (cap : ℕ) (v : View) → IsPermutation (all_hands_of v) (all_hands_of (if b then keeping_most cap v else v))
+keeps_entire true cap v = IsPermutation-refl (all_hands_of v)
+keeps_entire false cap v = IsPermutation-refl (all_hands_of v)
 
 -- a job is answered
 job_hands : (halted : Bool) (v : View) (number : ℕ) (given : BackAnswer) → IsJobAnswer (if halted then ask.Wait else ask_keeping v.jobs number) given → AreFew v.jobs.kept
@@ -214,11 +196,12 @@ job_hands true v number given allowed few = absurd allowed
 job_hands false v number given allowed few =
     job_keep false (ask_keeping v.jobs number) given v.stage v.pages (all_hands v.jobs) (all_hands (let w = job_step_keeping v number given in w.jobs)) allowed (told_entire v.jobs number given allowed few)
 
-holds_after : (h : KeptHappening) (v : View) → IsTidy v → MayHappen h v → HoldsAfter h v
+pub holds_after : (h : KeptHappening) (v : View) → IsTidy v → MayHappen h v → HoldsAfter h v
 holds_after (Answers given) v t may = hands_keep v given may.0
 holds_after (AnswersJob number given) v t may = job_hands (is_some v.halted) v number given may.0 t.few
 holds_after TakesTold v t may = IsPermutation-refl (all_hands_of v)
-holds_after (Attaches shape grefs port cap) v t may = attaches_entire (may_attach_keeping shape grefs cap v) shape grefs port cap v refl t
+holds_after (Attaches shape grefs port) v t may = attaches_entire (may_attach shape grefs v) shape grefs port v refl
+holds_after (Keeps cap) v t may = keeps_entire (may_keep_most cap v) cap v
 holds_after (Halts why) v t may = halts_entire (may_halt why) why v
 
 pub loses_none : LosesNone

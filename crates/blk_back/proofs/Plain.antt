@@ -1,5 +1,5 @@
 -- A back that keeps no mapping does what it would without.
-use Rattle.std.proofs.Common.{◌≡◌, ℕ, ◌+◌, Bool, true, false, ◌&&◌, if◌then◌else◌, List, [], ◌∷◌, ◌++◌, refl, sym, ap, ◌∙◌}
+use Rattle.std.proofs.Common.{◌≡◌, ℕ, ◌+◌, Bool, true, false, if◌then◌else◌, List, [], ◌∷◌, ◌++◌, refl, sym, ap, ◌∙◌}
 use Rattle.std.specs.Prelude.{Option, Some, None, is_some, ◌==◌}
 use Rattle.blk_base.specs.declared.parts.Mapping.{Mapping}
 use Rattle.blk_base.specs.declared.ask.BackAsk.{BackAsk}
@@ -9,7 +9,7 @@ use Rattle.blk_base.specs.declared.ask.BackAnswer.TheVariants as answer
 use Rattle.blk_base.specs.declared.halt.Halt.{Halt}
 use Rattle.blk_base.specs.declared.halt.Halt.TheVariants as halt
 use Rattle.blk_layout.specs.Entry.{request_of}
-use Rattle.ring_words.specs.Shape.{Shape, entry_words_of}
+use Rattle.ring_words.specs.Shape.{entry_words_of}
 use Rattle.ring_words.specs.Ring.{requests_of, overruns}
 use Rattle.persist_grants.specs.KeptMappings.{KeptMappings}
 use Rattle.back_jobs.specs.Jobs.{HeldJobs, first_mapping, work_of, effect_of}
@@ -20,9 +20,9 @@ use Rattle.blk_back.specs.declared.stage.BackStage.{BackStage}
 use Rattle.blk_back.specs.declared.stage.BackStage.TheVariants as stage
 use Rattle.blk_back.specs.View.{View}
 use Rattle.blk_back.specs.Ask.{next_reply}
-use Rattle.blk_back.specs.Step.{unmapping_next, abort, halts_at, may_halt, halts, may_attach, attached, attaches, overrun, looked, loop_word, loop_step, next_number, fetched, fetch_step, step_at, step_of, told_effect, job_ask_of, job_step}
-use Rattle.blk_back.specs.Keeping.{abort_keeping, halts_keeping_at, halts_keeping, attached_keeping, attaches_keeping, overrun_keeping, looked_keeping, loop_word_keeping, loop_step_keeping, fetched_keeping, fetch_step_keeping, step_keeping_at, step_keeping, job_ask_keeping, job_step_keeping, KeepsNone}
-use Rattle.blk_back.proofs.Hands.{step_kept_at, halted_kept, attached_kept}
+use Rattle.blk_back.specs.Step.{unmapping_next, abort, halts_at, may_halt, halts, overrun, looked, loop_word, loop_step, next_number, fetched, fetch_step, step_at, step_of, told_effect, job_ask_of, job_step}
+use Rattle.blk_back.specs.Keeping.{abort_keeping, may_keep_most, keeping_most, keeps, halts_keeping_at, halts_keeping, overrun_keeping, looked_keeping, loop_word_keeping, loop_step_keeping, fetched_keeping, fetch_step_keeping, step_keeping_at, step_keeping, job_ask_keeping, job_step_keeping, KeepsNone}
+use Rattle.blk_back.proofs.Hands.{step_kept_at, halted_kept}
 
 plain_abort : (v : View) → KeepsNone v → abort_keeping v ≡ abort v
 plain_abort v e =
@@ -73,13 +73,15 @@ plain_halts_at s why v e = refl
 pub plain_halts : (why : Halt) (v : View) → KeepsNone v → halts_keeping why v ≡ halts why v
 plain_halts why v e = ap (λ (w : View). if may_halt why then w else v) (plain_halts_at v.stage why v e)
 
-plain_attached : (may : Bool) (shape : Shape) (grefs : List ℕ) (port : ℕ) (v : View) → KeepsNone v → (if may && true then attached_keeping shape grefs port 0 v else v) ≡ (if may then attached shape grefs port v else v)
-plain_attached true shape grefs port v e = ap (λ (k : KeptMappings). record (attached shape grefs port v) { jobs = record v.jobs { kept = k } }) (sym e)
-plain_attached false shape grefs port v e = refl
+-- it is said that it may keep none, as it was
+kept_plainly : (b : Bool) (v : View) → KeepsNone v → (if b then keeping_most 0 v else v) ≡ v
+kept_plainly true v e =
+    ap (λ (k : KeptMappings). record v { jobs = record v.jobs { kept = record k { cap = 0 } } }) e
+    ∙ ap (λ (k : KeptMappings). record v { jobs = record v.jobs { kept = k } }) (sym e)
+kept_plainly false v e = refl
 
--- it is attached with no mapping to keep
-pub plain_attaches : (shape : Shape) (grefs : List ℕ) (port : ℕ) (v : View) → KeepsNone v → attaches_keeping shape grefs port 0 v ≡ attaches shape grefs port v
-plain_attaches shape grefs port v e = plain_attached (may_attach shape grefs v) shape grefs port v e
+pub plain_keeps : (v : View) → KeepsNone v → keeps 0 v ≡ v
+plain_keeps v e = kept_plainly (may_keep_most 0 v) v e
 
 pub plain_job_ask : (v : View) (number : ℕ) → KeepsNone v → job_ask_keeping v number ≡ job_ask_of v number
 plain_job_ask v number e = ap (λ (a : BackAsk). if is_some v.halted then ask.Wait else a) (plain_ask v.jobs number e)
@@ -100,9 +102,6 @@ stepped v new given none e = plain_as v new (step_keeping v given) (step_of v gi
 
 pub halted : (why : Halt) (v new : View) → KeepsNone v → new ≡ halts_keeping why v → IsPlain new (halts why v)
 halted why v new none e = plain_as v new (halts_keeping why v) (halts why v) none e (plain_halts why v none) (halted_kept why v)
-
-pub attached_none : (shape : Shape) (grefs : List ℕ) (port : ℕ) (v new : View) → KeepsNone v → new ≡ attaches_keeping shape grefs port 0 v → IsPlain new (attaches shape grefs port v)
-attached_none shape grefs port v new none e = plain_as v new (attaches_keeping shape grefs port 0 v) (attaches shape grefs port v) none e (plain_attaches shape grefs port v none) (attached_kept shape grefs port v)
 
 pub job_stepped : (v new : View) (number : ℕ) (given : BackAnswer) → KeepsNone v → new ≡ job_step_keeping v number given → IsPlain new (job_step v number given)
 job_stepped v new number given none e = plain_as v new (job_step_keeping v number given) (job_step v number given) none e (plain_job_step v number given none) refl

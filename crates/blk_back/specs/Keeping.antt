@@ -1,12 +1,13 @@
 -- What persistent grants (`feature-persistent` of `io/blkif.h`) make of the back: its jobs keep mappings for later requests, and after a halt those that are kept are unmapped too, after those in the jobs' hands and before the ring's pages. Where none may be kept all is as in `Step`.
-use Rattle.std.specs.Prelude.{◌≡◌, ℕ, Bool, true, ◌&&◌, List, ◌∷◌, ◌++◌, [], ◌+◌, Option, Some, None, is_some, if◌then◌else◌, ◌==◌, nat_le}
+use Rattle.std.specs.Prelude.{◌≡◌, ℕ, Bool, true, false, ◌&&◌, List, ◌∷◌, ◌++◌, [], length, ◌+◌, Option, Some, None, is_some, if◌then◌else◌, ◌==◌, nat_le}
+use Rattle.blk_base.specs.declared.parts.Mapping.{Mapping}
 use Rattle.blk_base.specs.declared.ask.BackAsk.{BackAsk}
 use Rattle.blk_base.specs.declared.ask.BackAsk.TheVariants as ask
 use Rattle.blk_base.specs.declared.ask.BackAnswer.{BackAnswer}
 use Rattle.blk_base.specs.declared.ask.BackAnswer.TheVariants.{Word}
 use Rattle.blk_base.specs.declared.halt.Halt.{Halt}
 use Rattle.blk_base.specs.declared.halt.Halt.TheVariants as halt
-use Rattle.ring_words.specs.Shape.{Shape, entry_words_of}
+use Rattle.ring_words.specs.Shape.{entry_words_of}
 use Rattle.ring_words.specs.Ring.{requests_of, overruns}
 use Rattle.blk_layout.specs.Entry.{request_of}
 use Rattle.persist_grants.specs.KeptMappings.{none_kept}
@@ -17,7 +18,7 @@ use Rattle.blk_back.specs.declared.stage.BackStage.{BackStage}
 use Rattle.blk_back.specs.declared.stage.BackStage.TheVariants as stage
 use Rattle.blk_back.specs.View.{View}
 use Rattle.blk_back.specs.Ask.{next_reply}
-use Rattle.blk_back.specs.Step.{unmapping_next, halts_at, may_halt, may_attach, attached, looked, loop_word, loop_step, next_number, fetched, fetch_step, step_at, told_effect}
+use Rattle.blk_back.specs.Step.{unmapping_next, halts_at, may_halt, looked, loop_word, loop_step, next_number, fetched, fetch_step, step_at, told_effect}
 
 -- the next mapping is given up: that of the lowest job that has one in its hand, or else one that is kept; where there is none the ring's pages are unmapped
 abbrev pub abort_keeping : View → View
@@ -31,15 +32,20 @@ halts_keeping_at s why v = halts_at s why v
 abbrev pub halts_keeping : Halt → View → View
 halts_keeping why v = if may_halt why then halts_keeping_at v.stage why v else v
 
--- the terms of its front, with how many mappings may be kept in this epoch: at most 1000
-abbrev pub may_attach_keeping : Shape → List ℕ → (cap : ℕ) → View → Bool
-may_attach_keeping shape grefs cap v = may_attach shape grefs v && nat_le cap 1000
+-- its front's terms are taken, and no page of its ring is mapped yet
+abbrev pub is_attached : BackStage → List Mapping → Bool
+is_attached stage.MapRing pages = length pages == 0
+is_attached s pages = false
 
-abbrev pub attached_keeping : Shape → List ℕ → (port cap : ℕ) → View → View
-attached_keeping shape grefs port cap v = record (attached shape grefs port v) { jobs = record v.jobs { kept = none_kept cap } }
+-- then it is said how many mappings may be kept in this epoch: at most 1000
+abbrev pub may_keep_most : (cap : ℕ) → View → Bool
+may_keep_most cap v = is_attached v.stage v.pages && nat_le cap 1000
 
-abbrev pub attaches_keeping : Shape → List ℕ → (port cap : ℕ) → View → View
-attaches_keeping shape grefs port cap v = if may_attach_keeping shape grefs cap v then attached_keeping shape grefs port cap v else v
+abbrev pub keeping_most : (cap : ℕ) → View → View
+keeping_most cap v = record v { jobs = record v.jobs { kept = record v.jobs.kept { cap = cap } } }
+
+abbrev pub keeps : (cap : ℕ) → View → View
+keeps cap v = if may_keep_most cap v then keeping_most cap v else v
 
 -- the back halts: it serves nothing more
 abbrev pub overrun_keeping : View → ℕ → View

@@ -24,10 +24,8 @@ use Rattle.vbd_back.specs.Step.{step_of}
 use Rattle.vbd_back.specs.Turn.{turn_of}
 use Rattle.vbd_back.specs.Part.{entry_part_by, entry_part, steps_of, asked_after, BackMovesEach}
 use Rattle.vbd_back.specs.Keeping.{KeepingView, IsPlain, with_ring, step_keeping, steps_keeping, asked_keeping, BackMovesEachKeeping}
-use Rattle.vbd_back.specs.Inside.{IsClear}
 use Rattle.vbd_back.proofs.Turns.{open_asks, open_steps, rests, hands_done}
 use Rattle.vbd_back.proofs.Open.{keeps_turn}
-use Rattle.vbd_back.proofs.Kept.{ring_clear}
 use Rattle.vbd_back.proofs.Plain.{CamePlainly, stepped}
 
 -- nothing but the ring's end changes, and it has the move again
@@ -71,13 +69,6 @@ came_to k known r words same has told =
     let ring_is : r ≡ ring_part.steps_keeping known.ends.ring (words_read words) = told ∙ ap (λ (l : KeepingView). ring_part.steps_keeping l.ends.ring (words_read words)) same in
     let is : with_ring k r ≡ steps_keeping known (words_read words) = ap (λ (l : KeepingView). with_ring l r) same ∙ (ap (λ (s : ring.View). with_ring known s) ring_is ∙ sym all.is) in
     record { is = is; turn = ours.0 ∙ sym (ap (λ (l : KeepingView). turn_of l.ends) is ∙ all.turn) }
-
-steps_clear : (v : ring.View) (answers : List BackAnswer) → IsClear v → IsClear (ring_part.steps_keeping v answers)
-steps_clear v [] clear = clear
-steps_clear v (a ∷ answers) clear = let w : ring.View = keeping.step_keeping v a in steps_clear w answers (ring_clear v w a refl clear)
-
-pub entry_clear : (v w : ring.View) (answers : List BackAnswer) → w ≡ ring_part.steps_keeping v answers → IsClear v → IsClear w
-entry_clear v w answers e clear = subst IsClear (sym e) (steps_clear v answers clear)
 
 -- each word of a part is asked for in turn
 later_asked : (k : KeepingView) (words : List ℕ) → turn_of k.ends ≡ turn.Ring → CopiesOn k.ends.ring (length words) → asked_keeping k (words_read words) ≡ ring_part.asked_keeping k.ends.ring (words_read words)

@@ -1,12 +1,12 @@
 -- A backend that is to keep no mapping does what it would without.
-use Rattle.std.proofs.Common.{◌≡◌, ℕ, Bool, true, false, ◌&&◌, if◌then◌else◌, refl, sym, ap, ◌∙◌}
+use Rattle.std.proofs.Common.{◌≡◌, ℕ, Bool, true, false, if◌then◌else◌, refl, sym, ap, ◌∙◌}
 use Rattle.std.specs.Prelude.{Option, Some, None}
 use Rattle.blk_base.specs.declared.ask.BackAnswer.{BackAnswer}
 use Rattle.blk_back.specs.View as ring
 use Rattle.blk_back.specs.Keeping as keeping
 use Rattle.blk_back.specs.Keeping.{KeepsNone}
 use Rattle.blk_back.proofs.Hands.{step_kept_at, halted_kept, attached_kept}
-use Rattle.blk_back.proofs.Plain.{plain_step, plain_halts, plain_attaches, job_stepped}
+use Rattle.blk_back.proofs.Plain.{plain_step, plain_halts, plain_keeps, job_stepped}
 use Rattle.xenbus_state.specs.declared.back.BackBusAsk.{BackBusAsk}
 use Rattle.xenbus_state.specs.declared.back.BackBusAsk.TheVariants as bus_ask
 use Rattle.xenbus_state.specs.declared.keys.FrontKey.{FrontKey}
@@ -17,34 +17,30 @@ use Rattle.xenbus_state.specs.BackStep as bus_step
 use Rattle.vbd_back.specs.View.{View}
 use Rattle.vbd_back.specs.Ask.{bus_ask_of, bus_moves, ring_moves}
 use Rattle.vbd_back.specs.Step.{ring_halt, shape_read, reads_layout, ring_led, halt_of, heard_by, spoken, ring_moved, ring_step, step_of, job_step}
-use Rattle.vbd_back.specs.Keeping.{KeepingView, reads_terms, ring_led_keeping, spoken_keeping, ring_step_keeping, step_keeping_at, step_keeping, job_step_keeping, IsPlain}
+use Rattle.vbd_back.specs.Keeping.{KeepingView, keeps_grants, ring_told, ring_led_keeping, spoken_keeping, ring_step_keeping, step_keeping_at, step_keeping, job_step_keeping, IsPlain}
 
--- the terms are read with the layout, and no mapping may be kept
-terms_plainly : (a : BackBusAsk) → reads_terms 0 a ≡ reads_layout a
-terms_plainly (bus_ask.GetKey k) = by_key k
+-- it is said that no mapping may be kept, as it was
+keeps_plainly : (b : Bool) (r : ring.View) → KeepsNone r → (if b then keeping.keeps 0 r else r) ≡ r
+keeps_plainly true r none = plain_keeps r none
+keeps_plainly false r none = refl
+
+told_plainly : (a : BackBusAsk) (b : BackView) (r : ring.View) → KeepsNone r → ring_told 0 a b r ≡ ring_led None (reads_layout a) b r
+told_plainly (bus_ask.GetKey k) b r none = by_key k
   where
-    by_key : (k : FrontKey) → reads_terms 0 (bus_ask.GetKey k) ≡ reads_layout (bus_ask.GetKey k)
+    by_key : (k : FrontKey) → ring_told 0 (bus_ask.GetKey k) b r ≡ ring_led None (reads_layout (bus_ask.GetKey k)) b r
     by_key key.Protocol = refl
-    by_key key.FeaturePersistent = refl
+    by_key key.FeaturePersistent = keeps_plainly (keeps_grants b) r none
     by_key k = refl
-terms_plainly a = refl
+told_plainly a b r none = refl
 
-none_capped : (b : Bool) (most : ℕ) → most ≡ 0 → (if b then most else 0) ≡ 0
-none_capped true most e = e
-none_capped false most e = refl
-
-led_plainly : (o : Option BackHalt) (reads : Bool) (b : BackView) (r : ring.View) → KeepsNone r → ring_led_keeping 0 o reads b r ≡ ring_led o reads b r
-led_plainly (Some why) reads b r none = plain_halts (ring_halt why) r none
-led_plainly None true b r none =
-    ap (λ (cap : ℕ). keeping.attaches_keeping (shape_read b) b.grefs b.terms.port cap r) (none_capped (b.features.persistent && b.terms.persistent) 0 refl)
-    ∙ plain_attaches (shape_read b) b.grefs b.terms.port r none
-led_plainly None false b r none = refl
+led_plainly : (o : Option BackHalt) (a : BackBusAsk) (b : BackView) (r : ring.View) → KeepsNone r → ring_led_keeping 0 o a b r ≡ ring_led o (reads_layout a) b r
+led_plainly (Some why) a b r none = plain_halts (ring_halt why) r none
+led_plainly None a b r none = told_plainly a b r none
 
 spoken_plainly : (v : View) (a : BackAnswer) → KeepsNone v.ring → spoken_keeping 0 v a ≡ spoken v a
 spoken_plainly v a none =
     ap (λ (r : ring.View). heard_by r v a)
-    (ap (λ (reads : Bool). ring_led_keeping 0 (halt_of v a) reads (bus_step.step_of v.bus a) v.ring) (terms_plainly (bus_ask_of v))
-    ∙ led_plainly (halt_of v a) (reads_layout (bus_ask_of v)) (bus_step.step_of v.bus a) v.ring none)
+    (led_plainly (halt_of v a) (bus_ask_of v) (bus_step.step_of v.bus a) v.ring none)
 
 moves_plainly : (b : Bool) (ask : BackBusAsk) (v : View) (a : BackAnswer) → KeepsNone v.ring → ring_step_keeping b ask v a ≡ ring_step b ask v a
 moves_plainly true ask v a none = ap (λ (r : ring.View). ring_moved ask r v a) (plain_step v.ring a none)

@@ -1,9 +1,10 @@
--- The backend that may keep mappings for later requests (`feature-persistent` of `io/blkif.h`): what an answer makes of it, and of one of its jobs. One that is to keep some publishes 1, and takes the terms of its front once it has read whether that published 1 too; only then mappings are kept. One that is to keep none is as it is in `Step`.
+-- The backend that may keep mappings for later requests (`feature-persistent` of `io/blkif.h`): what an answer makes of it, and of one of its jobs. One that is to keep some publishes 1, and reads whether its front published 1 too; only then mappings are kept. One that is to keep none is as it is in `Step`.
 use Rattle.std.specs.Prelude.{◌≡◌, ℕ, Bool, true, false, not, ◌&&◌, ◌==◌, List, fold, Option, Some, None, if◌then◌else◌}
 use Rattle.blk_base.specs.Options.{Options}
 use Rattle.blk_base.specs.declared.ask.BackAsk.{BackAsk}
 use Rattle.blk_base.specs.declared.ask.BackAnswer.{BackAnswer}
 use Rattle.blk_back.specs.View as ring
+use Rattle.blk_back.specs.Step.{attaches}
 use Rattle.blk_back.specs.Keeping as keeping
 use Rattle.blk_back.specs.Part as ring_part
 use Rattle.back_jobs.specs.Part.{MovesEach}
@@ -36,25 +37,24 @@ start_with most config = record { ends = both (ring.start_of config) (bus.start_
 abbrev pub start_keeping : Options → KeepingView
 start_keeping config = start_with config.persistent config
 
--- the terms of the front are read: the layout is the last of them that is asked for, but for a back that is to keep mappings, which asks whether its front keeps grants after that
-abbrev pub reads_terms : (most : ℕ) → BackBusAsk → Bool
-reads_terms most (bus_ask.GetKey key.Protocol) = most == 0
-reads_terms most (bus_ask.GetKey key.FeaturePersistent) = not (most == 0)
-reads_terms most ask = false
+-- both ends published that they keep grants
+abbrev pub keeps_grants : BackView → Bool
+keeps_grants b = b.features.persistent && b.terms.persistent
 
--- so many mappings may be kept in this epoch: none unless both ends published 1
-abbrev pub cap_of : (most : ℕ) → BackView → ℕ
-cap_of most b = if b.features.persistent && b.terms.persistent then most else 0
+-- the end of the ring takes the terms of the front once the layout is read; and where both ends keep grants it is said how many mappings it may keep, once it is read that the front does
+abbrev pub ring_told : (most : ℕ) → BackBusAsk → BackView → ring.View → ring.View
+ring_told most (bus_ask.GetKey key.Protocol) b r = attaches (shape_read b) b.grefs b.terms.port r
+ring_told most (bus_ask.GetKey key.FeaturePersistent) b r = if keeps_grants b then keeping.keeps most r else r
+ring_told most ask b r = r
 
--- the end of the ring halts with the negotiation, or takes the terms that it has read
-abbrev pub ring_led_keeping : (most : ℕ) → Option BackHalt → (reads : Bool) → BackView → ring.View → ring.View
-ring_led_keeping most (Some why) reads b r = keeping.halts_keeping (ring_halt why) r
-ring_led_keeping most None true b r = keeping.attaches_keeping (shape_read b) b.grefs b.terms.port (cap_of most b) r
-ring_led_keeping most None false b r = r
+-- the end of the ring halts with the negotiation, or is told what it has read
+abbrev pub ring_led_keeping : (most : ℕ) → Option BackHalt → BackBusAsk → BackView → ring.View → ring.View
+ring_led_keeping most (Some why) ask b r = keeping.halts_keeping (ring_halt why) r
+ring_led_keeping most None ask b r = ring_told most ask b r
 
 -- the negotiation was answered
 abbrev pub spoken_keeping : (most : ℕ) → View → BackAnswer → View
-spoken_keeping most v a = heard_by (ring_led_keeping most (halt_of v a) (reads_terms most (bus_ask_of v)) (bus_step.step_of v.bus a) v.ring) v a
+spoken_keeping most v a = heard_by (ring_led_keeping most (halt_of v a) (bus_ask_of v) (bus_step.step_of v.bus a) v.ring) v a
 
 -- the end of the ring has moved, or the negotiation alone may wait
 abbrev pub ring_step_keeping : Bool → BackBusAsk → View → BackAnswer → View

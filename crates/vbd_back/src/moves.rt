@@ -6,7 +6,7 @@ ghost use Rattle.vbd_back.specs.View.{both};
 ghost use Rattle.vbd_back.specs.Ask.{ask_of, bus_ask_of, IsAnswer, ring_moves};
 ghost use Rattle.vbd_back.specs.Turn.{turn_of};
 ghost use Rattle.vbd_back.specs.Step.{ring_halt, IsHeard, followed, waited, settled, caught_up};
-ghost use Rattle.vbd_back.specs.Keeping.{reads_terms, cap_of, spoken_keeping, ring_step_keeping, step_keeping_at};
+ghost use Rattle.vbd_back.specs.Keeping.{ring_told, spoken_keeping, ring_step_keeping, step_keeping_at};
 
 use crate::turn::Turn;
 use blk_back::{Back, BackStage};
@@ -47,42 +47,37 @@ pub fn ring_moves(ring: &Back, bus: &BackBus) -> bool
     }
 }
 
-// The negotiation was answered: where it halts, so does the ring's end, and where it has read the terms of
-// the front the ring's end takes them.
+// The negotiation was answered: where it halts, so does the ring's end, and else that is told what was
+// read.
 fn take_key(ring: &mut Back, bus: &mut BackBus, most: u32, answer: &BackAnswer)
     requires kind { IsBusAnswer (bus_ask bus.old) answer.now }
     ensures spoken { both ring.new bus.new ≡ spoken_keeping most (both ring.old bus.old) answer.now }
 {
-    let reads_terms = reads_terms(most, &bus.ask());
+    let ask = bus.ask();
     match bus.tell(answer) {
         Some(why) => ring.halt(ring_halt(why)),
-        None if reads_terms => {
-            let terms = bus.terms();
-            let cap = cap_of(most, bus);
-            ring.attach(terms.abi, terms.order, bus.grefs(), terms.port, cap);
-        }
-        None => {}
+        None => tell_ring(ring, bus, most, &ask),
     }
     settle(bus, ring.stage());
 }
 
-// Whether the last of the front's terms is asked for: the layout, or, of a back that is to keep mappings,
-// whether the front keeps grants.
-fn reads_terms(most: u32, ask: &BackBusAsk) -> bool
-    ensures { result ≡ reads_terms most ask.now }
+// What the ring's end is told where the negotiation was answered this: the terms of the front with the
+// layout, and how many mappings it may keep with whether the front keeps grants.
+fn tell_ring(ring: &mut Back, bus: &BackBus, most: u32, ask: &BackBusAsk)
+    ensures { ring.new ≡ ring_told most ask.now bus.now ring.old }
 {
     match ask {
-        BackBusAsk::GetKey(FrontKey::Protocol) => most == 0,
-        BackBusAsk::GetKey(FrontKey::FeaturePersistent) => most != 0,
-        _ => false,
+        BackBusAsk::GetKey(FrontKey::Protocol) => {
+            let terms = bus.terms();
+            ring.attach(terms.abi, terms.order, bus.grefs(), terms.port);
+        }
+        BackBusAsk::GetKey(FrontKey::FeaturePersistent) => {
+            if bus.keeps_grants() {
+                ring.keep_at_most(most);
+            }
+        }
+        _ => {}
     }
-}
-
-// How many mappings may be kept: none unless both ends published that they keep grants.
-fn cap_of(most: u32, bus: &BackBus) -> u32
-    ensures { result ≡ cap_of most bus.now }
-{
-    if bus.keeps_grants() { most } else { 0 }
 }
 
 /// Why the ring's end halts where the negotiation does.

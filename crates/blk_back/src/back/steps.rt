@@ -5,9 +5,9 @@ ghost use Rattle.blk_base.specs.declared.parts.Mode.TheVariants.{ReadWrite};
 ghost use Rattle.blk_base.specs.declared.ask.BackAnswer.TheVariants.{Word, Done, Mapped, MapRefused, BindRefused};
 ghost use Rattle.blk_back.specs.declared.stage.BackStage.TheVariants as stage;
 ghost use Rattle.blk_back.specs.Ask.{loop_ask, next_reply, IsAnswer};
-ghost use Rattle.blk_back.specs.Step.{step_at, loop_step, unbound, replied};
+ghost use Rattle.blk_back.specs.Step.{attaches, step_at, loop_step, unbound, replied};
 ghost use Rattle.blk_back.specs.Hands.{all_hands_of};
-ghost use Rattle.blk_back.specs.Keeping.{abort_keeping, halts_keeping, attaches_keeping, overrun_keeping, looked_keeping, loop_word_keeping, loop_step_keeping, fetched_keeping, fetch_step_keeping, step_keeping_at};
+ghost use Rattle.blk_back.specs.Keeping.{abort_keeping, halts_keeping, keeps, overrun_keeping, looked_keeping, loop_word_keeping, loop_step_keeping, fetched_keeping, fetch_step_keeping, step_keeping_at};
 
 use super::Back;
 use crate::stage::{BackStage, Reply};
@@ -71,21 +71,16 @@ impl Back {
     }
 
     /// Takes the terms of its front where it waits for them: the layout of entries, the order of the
-    /// ring, 0 to 4 (it has `2^order` pages), a reference for each page in order, the front's port, and how
-    /// many mappings it may keep in this epoch, 0 to 1000: 0 exactly where grants aren't persistent. It maps
-    /// the pages next. Where it doesn't wait, with another order, with more or fewer references, and with
-    /// more than 1000 mappings, nothing changes. It takes no memory.
+    /// ring, 0 to 4 (it has `2^order` pages), a reference for each page in order, and the front's port. It
+    /// maps the pages next. Where it doesn't wait, with another order, and with more or fewer references,
+    /// nothing changes. It takes no memory.
     #[tactic(auto, using(crate::proofs::Powers::few_pages, crate::proofs::Powers::pages_whole, crate::proofs::Powers::some_pages, crate::proofs::Powers::no_distance))]
-    pub fn attach(&mut self, abi: Abi, order: u32, grefs: &[u32], port: u32, kept: u32)
-        ensures { self.new ≡ attaches_keeping (record { abi = abi; order = order }) grefs.now port kept self.old }
+    pub fn attach(&mut self, abi: Abi, order: u32, grefs: &[u32], port: u32)
+        ensures { self.new ≡ attaches (record { abi = abi; order = order }) grefs.now port self.old }
     {
         if !matches!(self.stage, BackStage::InitWait) || order > 4 || grefs.len() != 1 << order {
             return;
         }
-        if kept > 1000 {
-            return;
-        }
-        self.jobs.keep_at_most(kept);
         self.abi = abi;
         self.order = order;
         self.grefs = ArrayVec::new();
@@ -93,6 +88,19 @@ impl Back {
         self.ring.port = port;
         self.ring.indices = BackRing::attach(RingShape::of(abi, order), self.ring.indices.prod());
         self.stage = BackStage::MapRing;
+    }
+
+    /// Says how many mappings it may keep in this epoch, 0 to 1000, once it has the terms of its front and
+    /// before it maps a page of the ring: 0 where grants aren't persistent, as it is where nothing is said.
+    /// At another time, and with more than 1000, nothing changes. It takes no memory.
+    #[tactic(auto, using(crate::proofs::Powers::no_distance))]
+    pub fn keep_at_most(&mut self, cap: u32)
+        ensures { self.new ≡ keeps cap self.old }
+    {
+        if !matches!(self.stage, BackStage::MapRing) || self.pages.len() != 0 || cap > 1000 {
+            return;
+        }
+        self.jobs.keep_at_most(cap);
     }
 
     /// Begins the next step of the loop.

@@ -14,8 +14,8 @@ use std::process::Abort;
 pub enum Step<'a> {
     /// It is given its front's terms: a layout, an order, references of the ring's pages, and port 1.
     Attaches(Abi, u32, &'a [u32]),
-    /// It is given the terms of a ring of one page, of reference 8, and may keep so many mappings.
-    AttachesKeeping(u32),
+    /// It may keep so many mappings.
+    KeepsAtMost(u32),
     Asks(Ask),
     Told(Answer),
     /// It asks this, which is done.
@@ -136,11 +136,11 @@ fn halted(back: &Back) -> Option<Halt> {
 }
 
 fn attach(back: &mut Back, abi: Abi, order: u32, grefs: &[u32]) {
-    back.attach(abi, order, grefs, 1, 0);
+    back.attach(abi, order, grefs, 1);
 }
 
-fn attach_keeping(back: &mut Back, kept: u32) {
-    back.attach(Abi::X64, 0, &[8], 1, kept);
+fn keep_at_most(back: &mut Back, cap: u32) {
+    back.keep_at_most(cap);
 }
 
 fn halts(back: &mut Back, why: Why) {
@@ -284,7 +284,7 @@ fn takes(rt: &impl Abort, back: &mut Back, step: &Step) {
 // The steps of jobs.
 fn serves(rt: &impl Abort, back: &mut Back, step: &Step) {
     match *step {
-        Step::AttachesKeeping(kept) => attach_keeping(back, kept),
+        Step::KeepsAtMost(cap) => keep_at_most(back, cap),
         Step::FetchesWrite(at, id, sector, gref) => {
             fetches(rt, back, (at, 0xca000101), (id, sector, gref))
         }

@@ -1,9 +1,8 @@
 use Rattle.std.proofs.Common.{◌∙◌, ap}
-use Rattle.back_jobs.specs.Part.{words_read}
 use Rattle.vbd_back.specs.Inside.{view_of}
 use Rattle.vbd_back.specs.Keeping.{KeepingView}
 use Rattle.vbd_back.specs.Turn.{turn_of}
-use Rattle.vbd_back.proofs.EntryParts.{came_to, entry_clear, part_each}
+use Rattle.vbd_back.proofs.EntryParts.{came_to, part_each}
 use Rattle.vbd_back.proofs.keeping.KeepingBackend.tell_entry.Goals as goal
 
 pub invariant_of-self : goal.invariant_of-self
@@ -11,7 +10,6 @@ invariant_of-self c = record {
   turn = c.self.invariant.turn
       ∙ (ap (λ (k : KeepingView). turn_of k.ends) c.self.view_is ∙ (came_to (view_of c.self.inside) c.args.self.now c.tell_entry.new.self c.args.words.now c.self.view_is c.requires.part c.tell_entry.ensures.stepped).turn);
   lent = c.self.invariant.lent;
-  clear = entry_clear c.self.inside.ring c.tell_entry.new.self (words_read c.args.words.now) c.tell_entry.ensures.stepped c.self.invariant.clear;
 }
 
 pub returns-clause-stepped : goal.returns-clause-stepped
