@@ -21,3 +21,6 @@ pub mod Tight
 pub mod Echo
 pub mod Outside
 pub mod Showing
+pub mod KeptHands
+pub mod Kept
+pub mod Without

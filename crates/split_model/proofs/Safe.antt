@@ -32,9 +32,8 @@ use Rattle.blk_back.specs.View as back
 use Rattle.blk_back.specs.Ask as back_ends
 use Rattle.ring_words.specs.Shape.{Shape}
 use Rattle.blk_back.specs.Step.{attached, halts, step_of, job_step, job_ask_of}
-use Rattle.blk_back.specs.Hands.{hands_at, hands_of, most_held}
-use Rattle.blk_back.proofs.Hands.{hands_after, halted_hands, job_hands_after, step_info}
-use Rattle.segment_list.specs.declared.verdict.DiskInfo.{DiskInfo}
+use Rattle.blk_back.specs.Hands.{hands_at, hands_of, most_held, most_with_kept}
+use Rattle.blk_back.proofs.Hands.{hands_after, halted_hands, job_hands_after}
 use Rattle.split_model.specs.World.{World, start_of, may_suspend, suspended}
 use Rattle.split_model.proofs.Outside.{LeavesEnds, leaves_ends, KeepsPorts, sent_keeps}
 use Rattle.split_model.specs.Happening.{Happening, FrontMoves, BackMoves, JobMoves, FrontEnters, BackAttaches, BackHalts, Submits, Suspends, happens, after, front_after, back_after, job_after, front_turn, back_turn, job_turn}
@@ -46,10 +45,10 @@ use Rattle.split_model.proofs.States.{halts_cases}
 use Rattle.split_model.proofs.Shapes.{attaches_waiting}
 use Rattle.split_model.proofs.Attaching.{attach_cases}
 use Rattle.split_model.proofs.SafeFront.{channels_front, step_fits, entered_kept, submit_kept}
-use Rattle.split_model.proofs.Suspending.{suspend_cases, ports_left_then, front_kept, suspended_hands, suspended_info, suspended_told}
+use Rattle.split_model.proofs.Suspending.{suspend_cases, ports_left_then, front_kept, suspended_hands, suspended_told}
 
 -- where nothing is mapped, whatever was, nothing is held
-none_live : (made : ℕ) → AreHeld (record { made = made; live = [] }) []
+pub none_live : (made : ℕ) → AreHeld (record { made = made; live = [] }) []
 none_live made = record {
   live = All-nil (IsLive (record { made = made; live = [] }));
   counted = λ number. refl;
@@ -62,7 +61,7 @@ pub safe_start : (o : Options) → IsSafe (start_of o)
 safe_start o = record { ported = (omega arith, refl); held = none_live 0; front_told = refl; back_told = refl }
 
 -- where no port is there that fits any stage before the port, and so does what is like it
-ported_as : (s : FrontStage) (c c' : ChannelState) → (HasNoPort c → HasNoPort c') → IsPorted s c → IsPorted s c'
+pub ported_as : (s : FrontStage) (c c' : ChannelState) → (HasNoPort c → HasNoPort c') → IsPorted s c → IsPorted s c'
 ported_as (front_stage.LeftData n) c c' into p = into p
 ported_as (front_stage.RingWord k) c c' into p = into p
 ported_as (front_stage.RingFrame page) c c' into p = into p
@@ -71,7 +70,7 @@ ported_as (front_stage.RingFlags page) c c' into p = into p
 ported_as front_stage.NewPort c c' into p = into p
 ported_as s c c' into p = tt
 
-ported_none : (s : FrontStage) (c : ChannelState) → HasNoPort c → IsPorted s c
+pub ported_none : (s : FrontStage) (c : ChannelState) → HasNoPort c → IsPorted s c
 ported_none (front_stage.LeftData n) c none = none
 ported_none (front_stage.RingWord k) c none = none
 ported_none (front_stage.RingFrame page) c none = none
@@ -92,7 +91,7 @@ ports_back h who ask o a e = elim (back_acts h who ask o a e) as (λ mover asked
 ]
 
 -- so where none is there none is
-no_port : (h : Hypervisor) (a : BackAct) → MakesNoPort h a → HasNoPort h.channels → HasNoPort a.under.channels
+pub no_port : (h : Hypervisor) (a : BackAct) → MakesNoPort h a → HasNoPort h.channels → HasNoPort a.under.channels
 no_port h a makes none = (let few = none.0 in let same = makes.0 in omega arith, makes.1 none.1)
 
 -- a move of the front
@@ -208,11 +207,11 @@ front_may_at h ask own within = tt
 pub front_may : (w : World) → IsSafe w → front_ends.StaysInMemory (front_ends.ask_of w.front) → FrontMay w.under (front_ends.ask_of w.front)
 front_may w safe within = front_may_at w.under (front_ends.ask_of w.front) (fronts_at w.under.channels w.front.stage w.front safe.ported) within
 
-has_left : (table : GrantTable) (hands : List Mapping) → AreHeld table hands → table.made + 1 < 2 ^ 64 → length hands ≤ most_held → HasMappingLeft table
+has_left : (table : GrantTable) (hands : List Mapping) → AreHeld table hands → table.made + 1 < 2 ^ 64 → length hands ≤ most_with_kept → HasMappingLeft table
 has_left table hands held made few = (made, let many = held.as_many in omega arith)
 
 -- what the back asks may be carried out
-back_may_at : (h : Hypervisor) (attached : Option ℕ) (hands : List Mapping) (ask : BackAsk) → IsBacks ask → AreHeld h.grants hands → Names hands ask → h.grants.made + 1 < 2 ^ 64 → length hands ≤ most_held → BackMay h attached ask
+pub back_may_at : (h : Hypervisor) (attached : Option ℕ) (hands : List Mapping) (ask : BackAsk) → IsBacks ask → AreHeld h.grants hands → Names hands ask → h.grants.made + 1 < 2 ^ 64 → length hands ≤ most_with_kept → BackMay h attached ask
 back_may_at h attached hands (back_ask.Read m word) own held names made few = (All-contains (IsLive h.grants) hands m held.live names.0, names.1)
 back_may_at h attached hands (back_ask.Write m word value) own held names made few = (All-contains (IsLive h.grants) hands m held.live names.0, names.1, names.2)
 back_may_at h attached hands (back_ask.Map gref mode) own held names made few = has_left h.grants hands held made few
@@ -227,10 +226,10 @@ back_may_at h attached hands (back_ask.Trim sector count) own held names made fe
 back_may_at h attached hands ask own held names made few = tt
 
 pub back_may : (h : Hypervisor) (attached : Option ℕ) (hands : List Mapping) (v : back.View) → AreHeld h.grants hands → Names hands (back_ends.ask_of v) → h.grants.made + 1 < 2 ^ 64 → length hands ≤ most_held → BackMay h attached (back_ends.ask_of v)
-back_may h attached hands v held names made few = back_may_at h attached hands (back_ends.ask_of v) (backs_of v) held names made few
+back_may h attached hands v held names made few = back_may_at h attached hands (back_ends.ask_of v) (backs_of v) held names made (omega (arith, few))
 
 -- what a job asks may be carried out, with a disk of as many sectors as it knows
-job_may_at : (h : Hypervisor) (attached : Option ℕ) (sectors : ℕ) (hands : List Mapping) (ask : BackAsk) → IsJobs ask → AreHeld h.grants hands → Names hands ask → StaysInPageAndDisk sectors ask → attached ≡ Some sectors → h.grants.made + 1 < 2 ^ 64 → length hands ≤ most_held → BackMay h attached ask
+pub job_may_at : (h : Hypervisor) (attached : Option ℕ) (sectors : ℕ) (hands : List Mapping) (ask : BackAsk) → IsJobs ask → AreHeld h.grants hands → Names hands ask → StaysInPageAndDisk sectors ask → attached ≡ Some sectors → h.grants.made + 1 < 2 ^ 64 → length hands ≤ most_with_kept → BackMay h attached ask
 job_may_at h attached sectors hands back_ask.Wait own held names within disk made few = tt
 job_may_at h attached sectors hands back_ask.Fence own held names within disk made few = absurd own
 job_may_at h attached sectors hands (back_ask.Read m word) own held names within disk made few = (All-contains (IsLive h.grants) hands m held.live names.0, names.1)
@@ -249,7 +248,7 @@ job_may_at h attached sectors hands back_ask.Flush own held names within disk ma
 job_may_at h attached sectors hands (back_ask.Trim sector count) own held names within disk made few = rw disk within
 
 pub job_may : (h : Hypervisor) (attached : Option ℕ) (sectors : ℕ) (hands : List Mapping) (v : back.View) (k : ℕ) → AreHeld h.grants hands → Names hands (job_ask_of v k) → StaysInPageAndDisk sectors (job_ask_of v k) → attached ≡ Some sectors → h.grants.made + 1 < 2 ^ 64 → length hands ≤ most_held → BackMay h attached (job_ask_of v k)
-job_may h attached sectors hands v k held names within disk made few = job_may_at h attached sectors hands (job_ask_of v k) (jobs_of v k) held names within disk made few
+job_may h attached sectors hands v k held names within disk made few = job_may_at h attached sectors hands (job_ask_of v k) (jobs_of v k) held names within disk made (omega (arith, few))
 
 safe_front_turn : (w : World) (act : Option FrontAct) → IsSafe w → front_turn w ≡ act → IsSafe (front_after w act)
 safe_front_turn w None safe e = safe

@@ -2,6 +2,8 @@
 use Rattle.std.proofs.Common.{◌≡◌, ℕ, Bool, true, false, if◌then◌else◌, List, [], ◌∷◌, refl, arith}
 use Rattle.std.specs.Prelude.{Option, Some, None, is_some, ◌==◌, ◌||◌}
 use Rattle.blk_base.specs.declared.parts.Mapping.{Mapping}
+use Rattle.blk_base.specs.declared.parts.Mode.{Mode}
+use Rattle.blk_base.specs.declared.parts.Mode.TheVariants.{ReadWrite}
 use Rattle.blk_base.specs.declared.ask.FrontAsk.{FrontAsk}
 use Rattle.blk_base.specs.declared.ask.FrontAsk.TheVariants as front_ask
 use Rattle.blk_base.specs.declared.ask.BackAsk.{BackAsk}
@@ -24,13 +26,16 @@ use Rattle.blk_front.specs.Ask as front_ends
 use Rattle.back_jobs.specs.declared.stage.JobStage.{JobStage}
 use Rattle.back_jobs.specs.declared.stage.JobStage.TheVariants as job_stage
 use Rattle.back_jobs.specs.Work as task
-use Rattle.back_jobs.specs.Jobs.{asked, work_of, waits, ask_job}
+use Rattle.back_jobs.specs.Jobs.{asked, work_of, place_of, waits, ask_job}
+use Rattle.back_jobs.specs.Keeping as keeping
+use Rattle.persist_grants.specs.KeptMappings.{may_keep}
 use Rattle.blk_back.specs.declared.stage.Reply.{Reply}
 use Rattle.blk_back.specs.declared.stage.BackStage.{BackStage}
 use Rattle.blk_back.specs.declared.stage.BackStage.TheVariants as back_stage
 use Rattle.blk_back.specs.View as back
 use Rattle.blk_back.specs.Ask as back_ends
 use Rattle.blk_back.specs.Step.{job_ask_of}
+use Rattle.blk_back.specs.Keeping.{job_ask_keeping}
 use Rattle.split_model.specs.Safe.{HasNoPort, IsPorted}
 use Rattle.split_model.proofs.Acting.{FrontGet, FrontSet, FrontWatch, front_acts, BackActs, BackMap, BackFence, BackBind, BackBindRefused, BackSend, BackClose, BackGet, BackSet, BackWatch, DiskGives, ReadFails, DiskTakes, WriteFails, DiskFlushes, FlushFails, DiskTrims, TrimFails, back_acts}
 
@@ -200,9 +205,9 @@ IsJobs (back_ask.SetKey path text) = ⊥
 IsJobs (back_ask.Watch path) = ⊥
 IsJobs ask = Unit {0}
 
-map_jobs : (rest : List Segment) (writes : Bool) → IsJobs (task.map_ask rest writes)
-map_jobs [] writes = tt
-map_jobs (s ∷ rest) writes = tt
+map_jobs : (rest : List Segment) (mode : Mode) → IsJobs (task.map_in rest mode)
+map_jobs [] mode = tt
+map_jobs (s ∷ rest) mode = tt
 
 page_jobs : (pages : List ℕ) → IsJobs (task.page_ask pages)
 page_jobs [] = tt
@@ -210,7 +215,7 @@ page_jobs (gref ∷ pages) = tt
 
 jobs_at : (s : JobStage) (t : task.Work) → IsJobs (task.ask_at s t)
 jobs_at job_stage.MapPage t = page_jobs t.pages
-jobs_at job_stage.Map t = map_jobs t.rest t.writes
+jobs_at job_stage.Map t = map_jobs t.rest (task.mode_of t.writes)
 jobs_at s t = tt
 
 jobs_asked : (held : Bool) (t : Option task.Work) → IsJobs (asked held t)
@@ -225,6 +230,22 @@ jobs_if false ask own = own
 pub jobs_of : (v : back.View) (k : ℕ) → IsJobs (job_ask_of v k)
 jobs_of v k = jobs_if (is_some v.halted) (ask_job v.jobs k) (jobs_asked (waits v.jobs.works k) (work_of v.jobs.works k))
 
+-- so it is where mappings are kept
+jobs_with : (keeps : Bool) (s : JobStage) (t : task.Work) → IsJobs (keeping.ask_with keeps s t)
+jobs_with true job_stage.Map t = map_jobs t.rest ReadWrite
+jobs_with true s t = jobs_at s t
+jobs_with false s t = jobs_at s t
+
+jobs_asked_in : (keeps held : Bool) (t : Option task.Work) → IsJobs (keeping.asked_in keeps held t)
+jobs_asked_in keeps held None = tt
+jobs_asked_in keeps true (Some t) = tt
+jobs_asked_in keeps false (Some t) = jobs_with keeps t.stage t
+
+pub jobs_keeping : (v : back.View) (k : ℕ) → IsJobs (job_ask_keeping v k)
+jobs_keeping v k =
+    let keeps = may_keep v.jobs.kept in
+    jobs_if (is_some v.halted) (keeping.ask_keeping v.jobs k) (jobs_asked_in keeps (keeping.waits_in keeps v.jobs.works (place_of v.jobs.works k) (work_of v.jobs.works k)) (work_of v.jobs.works k))
+
 job_answers : (h : Hypervisor) (k : ℕ) (ask : BackAsk) (o : Outcome) (a : BackAct) → IsJobs ask → BackActs h (back_mover.Job k) ask o a → task.IsAnswer ask a.answer
 job_answers h k ask o a own (BackMap gref mode frame is) = (refl, refl)
 job_answers h k ask o a own BackFence = absurd own
@@ -235,5 +256,8 @@ job_answers h k ask o a own BackClose = absurd own
 job_answers h k ask o a own acts = tt
 
 -- a job is answered what its ask allows
+pub job_answered_as : (h : Hypervisor) (k : ℕ) (ask : BackAsk) (o : Outcome) (a : BackAct) → IsJobs ask → back_act h (back_mover.Job k) ask o ≡ Some a → task.IsAnswer ask a.answer
+job_answered_as h k ask o a own e = job_answers h k ask o a own (back_acts h (back_mover.Job k) ask o a e)
+
 pub job_answered : (h : Hypervisor) (v : back.View) (k : ℕ) (o : Outcome) (a : BackAct) → back_act h (back_mover.Job k) (job_ask_of v k) o ≡ Some a → task.IsAnswer (job_ask_of v k) a.answer
-job_answered h v k o a e = job_answers h k (job_ask_of v k) o a (jobs_of v k) (back_acts h (back_mover.Job k) (job_ask_of v k) o a e)
+job_answered h v k o a e = job_answered_as h k (job_ask_of v k) o a (jobs_of v k) e

@@ -6,3 +6,4 @@ pub mod Leads
 pub mod Safe
 pub mod Report
 pub mod Honest
+pub mod Kept

@@ -1,5 +1,5 @@
 use Rattle.std.proofs.Common.{refl}
-use Rattle.std.specs.Prelude.{ℕ, Some}
+use Rattle.std.specs.Prelude.{Some}
 use Rattle.blk_back.specs.Hands.{hands_of}
 use Rattle.split_model.proofs.Safe.{safe_start, safe_happens, safe_after, front_may, back_may, job_may}
 use Rattle.split_model.proofs.every_ask_may_be_carried_out.Goals as goal
