@@ -23,3 +23,4 @@ pub mod Replying
 pub mod ReplyLines
 pub mod ReplySees
 pub mod ReplyDecided
+pub mod Coming

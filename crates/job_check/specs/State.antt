@@ -21,7 +21,7 @@ use Rattle.report_rules.specs.Reply.{is_event}
 use Rattle.ring_check.specs.State.{RingState, word_seen, entry_word_seen}
 use Rattle.job_check.specs.declared.kept.Made.{Made}
 use Rattle.job_check.specs.Kept.{Kept, after_map, after_unmap}
-use Rattle.job_check.specs.Open.{Open, opened, moved_by, failed_by, with_sector}
+use Rattle.job_check.specs.Open.{Open, opened, with_end, after_word, walked_by, moved_by, failed_by, with_sector}
 use Rattle.job_check.specs.Published.{Published, nothing_published, published_after, is_persistent}
 use Rattle.job_check.specs.Replies.{Replies, no_replies, after_value, after_other, answered_by}
 
@@ -100,6 +100,14 @@ entry_value_seen ring line = None
 
 abbrev pub with_kept : JobState → Move → JobState
 with_kept s move = record s { kept = kept_after s.kept move }
+
+-- a job read a word
+abbrev pub after_word_read : JobState → ℕ → Move → (value : ℕ) → JobState
+after_word_read s k move value = job_changed s k (λ o. with_end s.replies.rows (after_word (walked_by o move) value))
+
+-- nothing more is due after the line before
+abbrev pub passed : JobState → JobState
+passed s = record s { replies = after_other s.replies; moved = None }
 
 -- after a move that is none of the back's on its ring
 abbrev pub after_other_move : JobState → Move → JobState

@@ -1,5 +1,5 @@
 -- Whether a line may come next, by what is kept of the ring and of the back's jobs (`io/blkif.h`, `io/ring.h`).
-use Rattle.std.specs.Prelude.{ℕ, ◌+◌, ◌%◌, Bool, true, false, not, ◌&&◌, ◌==◌, List, slice_index, Option, Some, None, is_some, Result, Ok}
+use Rattle.std.specs.Prelude.{ℕ, ◌+◌, ◌%◌, Bool, true, false, not, ◌&&◌, ◌==◌, List, slice_index, Option, Some, None, is_none, is_some, Result, Ok}
 use Rattle.std.specs.Map.{values_of}
 use Rattle.blk_base.specs.declared.operation.Status.{Status}
 use Rattle.blk_base.specs.declared.operation.Status.TheVariants as status
@@ -103,3 +103,11 @@ is_told s line (Some row) = tells_of (response_of row) line && is_some (job_answ
 -- the back writes only the next word of a reply, and tells each that it pushed
 abbrev pub allows_reply : RingState → JobState → Line → Bool
 allows_reply ring s line = allows_value ring s line (value_seen ring line) && is_told s line s.replies.pushed
+
+-- all of these rules allow the line
+abbrev pub allows : RingState → JobState → Line → Bool
+allows ring s line = allows_step s line && allows_effect s line && allows_data s line && allows_reply ring s line
+
+-- nothing is due after the line before
+abbrev pub owes_none : JobState → Bool
+owes_none s = is_none s.moved && is_none s.replies.pushed

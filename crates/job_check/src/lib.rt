@@ -11,6 +11,7 @@ mod open;
 mod published;
 mod replies;
 mod sight;
+mod taking;
 mod verdict;
 
 pub use laws::{

@@ -175,44 +175,19 @@ impl JobSight {
 
     /// One line further, where this is kept of the ring before the line. After want of memory all is
     /// as before.
-    #[inline(always)]
     pub fn see(&mut self, ring: &RingSight, line: &Line) -> Result<(), OutOfMemory>
         ensures seen { Becomes (seen ring.now self.old line.now) result self.old self.new }
     {
-        match line {
-            Line::Move(Move::FrontRead { .. }) | Line::Move(Move::FrontWrite { .. }) => {
-                self.replies.pass();
-                self.moved = None;
-                Ok(())
-            }
-            Line::Move(made) => self.see_made(ring, line, made),
-            _ => self.see_any(ring, line),
-        }
-    }
-
-    // One line further, which is a move.
-    fn see_made(&mut self, ring: &RingSight, line: &Line, made: &Move) -> Result<(), OutOfMemory>
-        requires { line.now ≡ lines.Move made.now }
-        ensures seen { Becomes (seen ring.now self.old line.now) result self.old self.new }
-    {
-        match made {
-            Move::Read {
-                who: BackMover::Job(k),
-                value,
-                ..
-            } => {
-                self.read_by_job(*k, made, *value)?;
-                self.replies.pass();
-                self.moved = None;
-                Ok(())
-            }
-            Move::Read {
-                who: BackMover::Back,
-                value,
-                ..
-            } => {
+        match *line {
+            Line::Move(
+                Move::Read {
+                    who: BackMover::Back,
+                    value,
+                    ..
+                },
+            ) => {
                 if ring.entry_word(line).is_some() {
-                    self.take_word(ring, *value)?;
+                    self.take_word(ring, value)?;
                 }
                 self.replies.pass();
                 self.moved = None;
@@ -222,8 +197,8 @@ impl JobSight {
         }
     }
 
-    // One line further, whatever it is. Most lines are accesses of the front's, which tell nothing of
-    // jobs, and words that jobs and the back read, so `see` doesn't ask of those what else they may be.
+    // One line further, whatever it is. Many lines are words that the back reads, so `see` doesn't ask
+    // of those what else they may be.
     fn see_any(&mut self, ring: &RingSight, line: &Line) -> Result<(), OutOfMemory>
         ensures seen { Becomes (seen ring.now self.old line.now) result self.old self.new }
     {

@@ -124,25 +124,7 @@ fn is_next_value(r: &ReplyRow, jobs: &BTreeMap<u64, OpenJob>, replied: u32, valu
 impl JobSight {
     /// Whether the rule on steps allows the line: each move of a job but an unmap is the next step of
     /// its work, through the mapping of its segment.
-    #[inline(always)]
     pub fn allows_step(&self, line: &Line) -> bool
-        ensures { result ≡ allows_step self.now line.now }
-    {
-        match line {
-            Line::Move(made) => match *made {
-                Move::Read {
-                    who: BackMover::Job(k),
-                    ..
-                } => self.may_step(k, made),
-                _ => self.allows_any_step(line),
-            },
-            _ => true,
-        }
-    }
-
-    // The same, whatever the line is. Most moves of jobs are reads, so `allows_step` doesn't ask of
-    // those what else they may be.
-    fn allows_any_step(&self, line: &Line) -> bool
         ensures { result ≡ allows_step self.now line.now }
     {
         match (line, stepper(line)) {

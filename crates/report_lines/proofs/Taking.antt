@@ -1,6 +1,7 @@
 -- What a reader of lines takes of its source, over plain lists.
-use Rattle.std.proofs.Common.{◌≡◌, ◌≢◌, ℕ, ◌-◌, ◌<◌, ◌≤◌, List, [], ◌++◌, length, take, drop, Option, Some, None, refl, sym, ap, subst, ◌∙◌, arith, append_assoc, append-nil, length-append, take-append-drop}
-use Rattle.std.proofs.lemmas.List.{length-take-le, take-append-le}
+use Rattle.std.proofs.Common.{◌≡◌, ◌≢◌, ℕ, ◌+◌, ◌-◌, ◌<◌, ◌≤◌, List, [], ◌++◌, length, take, drop, Option, Some, None, refl, sym, ap, subst, ◌∙◌, arith, append_assoc, append-nil, length-append, take-append-drop}
+use Rattle.std.proofs.lemmas.List.{length-take-le}
+use Rattle.std.proofs.Math.Seq.{take-add}
 use Rattle.blk_io.specs.Outside.{SourceSeen, IsRead, GivesBytes}
 use Rattle.report_lines.specs.Filling.{Ahead, IsTaken, IsAtEnd, Fills}
 
@@ -9,19 +10,21 @@ taken_by_read n None after buffer h = h
 taken_by_read n (Some bytes) after buffer h =
     (drop n bytes, sym (take-append-drop n bytes) ∙ ap (λ l. l ++ drop n bytes) (sym h.1), h.2)
 
-pub takes_more : (a b : Ahead) (s t : SourceSeen) (buffer rest : List ℕ) (n : ℕ) → GivesBytes n buffer s t → n ≢ 0 → n ≤ a.room → b ≡ record { bytes = a.bytes ++ take n (buffer ++ rest); room = a.room - n } → Fills a b s t × (b.room < a.room)
-takes_more a b s t buffer rest n given some room made =
-    let same = take-append-le n buffer rest given.fits in
-    let long : length (take n buffer) ≡ n = length-take-le n buffer given.fits in
-    let rooms : b.room ≡ a.room - n = ap (λ (x : Ahead). x.room) made in (
+-- spare bytes begin with those ahead; a source gave so many more after them, and there they are cut off
+pub takes_more : (a : Ahead) (s t : SourceSeen) (kept n : ℕ) (ahead old spare cut : List ℕ) → ahead ≡ a.bytes → kept ≡ length ahead → take (length ahead) old ≡ ahead → take kept spare ≡ take kept old
+    → GivesBytes n (drop kept spare) s t → n ≢ 0 → n ≤ a.room → cut ≡ take (kept + n) spare → Fills a (record { bytes = drop 0 cut; room = a.room - n }) s t × (a.room - n < a.room)
+takes_more a s t kept n ahead old spare cut whole long begun same given some enough is =
+    let buffer = drop kept spare in
+    let got : length (take n buffer) ≡ n = length-take-le n buffer given.fits in
+    let before : take kept spare ≡ a.bytes = same ∙ ap (λ k. take k old) long ∙ begun ∙ whole in (
       record {
         got = take n buffer;
-        ahead = ap (λ (x : Ahead). x.bytes) made ∙ ap (λ l. a.bytes ++ l) same;
+        ahead = is ∙ take-add kept n spare ∙ ap (λ l. l ++ take n buffer) before;
         taken = taken_by_read n s.left t.left buffer given.read;
-        room = omega (arith, long, rooms);
+        room = omega (arith, got);
         faults = given.faults;
       },
-      omega (arith, rooms),
+      omega arith,
     )
 
 end_by_read : (before after : Option (List ℕ)) (buffer : List ℕ) → 0 < length buffer → IsRead 0 before after buffer → IsTaken [] before after × IsAtEnd after

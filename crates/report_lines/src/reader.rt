@@ -1,6 +1,6 @@
 // The lines of a source, one by one.
 ghost use Rattle.std.specs.Prelude.{◌≡◌, ◌≢◌, ◌≤◌, ◌<◌, ◌+◌, ◌++◌, [], length, take, drop, IfOk, IfErr, OnOk, OnErr, IfSome, IfNone, Some, None};
-ghost use Rattle.blk_io.specs.Outside.{SourceSeen};
+ghost use Rattle.blk_io.specs.Outside.{SourceSeen, ReadsBytes};
 ghost use Rattle.report_lines.specs.Text.{HasNoLineFeed};
 ghost use Rattle.report_lines.specs.Filling.{IsLineAhead, TakesMore, FillsLine};
 
@@ -67,6 +67,37 @@ fn first_feed(bytes: &[u8]) -> Option<usize>
     memchr(b'\n', bytes)
 }
 
+// Puts bytes in place of the first of others.
+fn put_first(others: &mut [u8], bytes: &[u8])
+    requires { length bytes.now ≤ length others.old }
+    ensures put { take (length bytes.now) others.new ≡ bytes.now }
+    ensures long { length others.new ≡ length others.old }
+{
+    others[..bytes.len()].copy_from_slice(bytes);
+}
+
+// Makes `spare` begin with bytes, and gives it so many more after them: what those are isn't said.
+fn begin_with(spare: &mut Vec<u8>, bytes: &[u8], more: usize) -> Result<(), ReadStop>
+    requires { more ≤ 16384 }
+    ensures begun { OnOk result (take (length bytes.now) spare.new.items ≡ bytes.now) }
+    ensures long { OnOk result (length spare.new.items ≡ length bytes.now + more) }
+    ensures lack { IfErr result (λ stop. stop ≡ ReadStop.OutOfMemory) }
+{
+    spare.resize(bytes.len() + more, 0)?;
+    put_first(spare.as_mut_slice(), bytes);
+    Ok(())
+}
+
+// Reads bytes of a source to the place after the first ones of `spare`.
+fn read_after<S: Source>(kept: usize, spare: &mut Vec<u8>, source: &mut S) -> Result<usize, Failed>
+    requires { kept ≤ length spare.old.items }
+    ensures read { ReadsBytes (drop kept spare.new.items) result (S.seen source.old) (S.seen source.new) }
+    ensures before { take kept spare.new.items ≡ take kept spare.old.items }
+    ensures long { length spare.new.items ≡ length spare.old.items }
+{
+    source.read(&mut spare.as_mut_slice()[kept..])
+}
+
 impl LineReader {
     /// Nothing is ahead, and so many bytes may be taken.
     pub fn new(alloc: Global, room: u64) -> LineReader
@@ -95,16 +126,18 @@ impl LineReader {
         self.start += count;
     }
 
-    // Takes more bytes of the source; `false` says that it has come to its end. Whoever calls it is
-    // not to make room for the piece at each line.
+    // Takes more bytes of the source; `false` says that it has come to its end. Its bytes are read to
+    // where they stay, after those ahead: none of them is copied, and no place is cleared for them but
+    // the first time.
     #[inline(never)]
     fn take_more<S: Source>(&mut self, source: &mut S) -> Result<bool, ReadStop>
         requires { 0 < self.old.room }
         ensures { TakesMore result self.old self.new (S.seen source.old) (S.seen source.new) }
     {
-        let mut piece = [0; PIECE];
+        let kept = self.bytes.len() - self.start;
         let most = self.room.min(PIECE as u64) as usize;
-        let count = match source.read(&mut piece[..most]) {
+        begin_with(&mut self.spare, &self.bytes.as_slice()[self.start..], most)?;
+        let count = match read_after(kept, &mut self.spare, source) {
             Ok(count) => count,
             Err(Failed) => return Err(ReadStop::Source),
         };
@@ -112,22 +145,10 @@ impl LineReader {
             return Ok(false);
         }
         self.room -= count as u64;
-        self.append(&piece[..count])?;
-        Ok(true)
-    }
-
-    // Puts a piece after the bytes ahead, and lets go those before them.
-    fn append(&mut self, piece: &[u8]) -> Result<(), ReadStop>
-        ensures appended { OnOk result (self.new ≡ record self.old { bytes = self.old.bytes ++ piece.now }) }
-        ensures lack { IfErr result (λ stop. stop ≡ ReadStop.OutOfMemory) }
-    {
-        self.spare.clear();
-        self.spare
-            .extend_from_slice(&self.bytes.as_slice()[self.start..])?;
-        self.spare.extend_from_slice(piece)?;
+        self.spare.truncate(kept + count);
         swap(&mut self.bytes, &mut self.spare);
         self.start = 0;
-        Ok(())
+        Ok(true)
     }
 
     /// Takes bytes of the source until a line is ahead, and answers how many bytes it has before its

@@ -4,3 +4,4 @@ pub mod Follows
 pub mod Firsts
 pub mod Premises
 pub mod Told
+pub mod Steps

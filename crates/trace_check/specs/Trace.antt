@@ -76,6 +76,14 @@ broken_move t line =
     else (if not (allows_overrun t.ring line) then Some rule.Overrun
     else None)))
 
+-- the same as far as it asks nothing of what the back's jobs do and of an overrun
+abbrev pub broken_before : Trace → Line → Option Rule
+broken_before t line =
+    if not (shows_what_is_there t.memory line) then Some rule.Coherent
+    else (if not (allows_touch t line) then Some rule.Touch
+    else (if not (allows_stretch t.ring line) then Some rule.Fetch
+    else None))
+
 -- the rules on requests are tested up to the first hostile line
 abbrev pub broken_while_honest : Trace → Line → Option Rule
 broken_while_honest t line = if (outlined t.outline line).hostile then None else broken_request t.requests line

@@ -92,10 +92,9 @@ pub fn check<S: Source>(
             Ok(false) => return Ok(finding_at(number, trace.has_ended())),
             Err(stop) => return Err(stop_at(number, stop)),
         }
-        if let Some(rule) = trace.broken_by(&line) {
+        if let Some(rule) = trace.take(&line)? {
             return Ok(Finding::Broken { line: number, rule });
         }
-        trace.see(&line)?;
         number += 1;
     }
 }

@@ -1,9 +1,7 @@
 // What a checker keeps of a report, and what it says of the next line.
-ghost use Rattle.std.specs.Prelude.{◌≡◌, IfOk, true};
-ghost use Rattle.memory_check.specs.Verdicts.{touches_a_mapping, answers_map};
-ghost use Rattle.ring_check.specs.Verdict.{allows_stretch};
-ghost use Rattle.job_check.specs.Verdict.{allows_step, allows_data};
-ghost use Rattle.trace_check.specs.Trace.{start, moved, seen, allows_touch, allows_fetch, broken_request, broken_move, broken_while_honest, broken_where_shown, broken_by};
+ghost use Rattle.std.specs.Prelude.{◌≡◌, IfOk, None};
+ghost use Rattle.trace_check.specs.Outline.{outlined};
+ghost use Rattle.trace_check.specs.Trace.{start, moved, moves_after, requests_after, seen, allows_touch, broken_request, broken_before, broken_move, broken_while_honest, broken_where_shown, broken_by};
 
 use crate::outline::Outline;
 use blk_base::{BackMover, Move, OutOfMemory};
@@ -92,6 +90,82 @@ impl Trace {
         self.outline.has_ended()
     }
 
+    // Whether each touch and each map in the line goes by the entries and mappings that stand.
+    fn allows_touch(&self, line: &Line) -> bool
+        ensures { result ≡ allows_touch self.now line.now }
+    {
+        self.memory.touches_a_mapping(line) && self.memory.answers_map(line)
+    }
+
+    // The first rule on moves that the line breaks, but for what the back's jobs do in it and for an
+    // overrun.
+    fn broken_before(&self, line: &Line) -> Option<Rule>
+        ensures { result ≡ broken_before self.now line.now }
+    {
+        if !self.memory.shows_what_is_there(line) {
+            Some(Rule::Coherent)
+        } else if !self.allows_touch(line) {
+            Some(Rule::Touch)
+        } else if !self.ring.allows_stretch(line) {
+            Some(Rule::Fetch)
+        } else {
+            None
+        }
+    }
+
+    // The same. Of an access of the front's and of a word that a job reads less is asked: they answer
+    // no map, and fetch nothing.
+    #[inline(always)]
+    fn broken_first(&self, line: &Line) -> Option<Rule>
+        ensures { result ≡ broken_before self.now line.now }
+    {
+        match line {
+            Line::Move(Move::FrontRead { .. }) | Line::Move(Move::FrontWrite { .. }) => {
+                if self.memory.shows_what_is_there(line) {
+                    None
+                } else {
+                    Some(Rule::Coherent)
+                }
+            }
+            Line::Move(
+                Move::Read {
+                    who: BackMover::Job(_),
+                    ..
+                },
+            ) => {
+                if !self.memory.shows_what_is_there(line) {
+                    Some(Rule::Coherent)
+                } else if !self.memory.touches_a_mapping(line) {
+                    Some(Rule::Touch)
+                } else {
+                    None
+                }
+            }
+            _ => self.broken_before(line),
+        }
+    }
+
+    // The first rule on moves that the line breaks. Where it breaks none, it is taken in, as far as it
+    // tells of moves.
+    #[tactic(auto, using(crate::proofs::Steps::move_by_steps))]
+    fn take_move(&mut self, line: &Line) -> Result<Option<Rule>, OutOfMemory>
+        ensures told { IfOk result (λ broken. broken ≡ broken_move self.old line.now) }
+        ensures taken { IfOk result (λ broken. broken ≡ None → self.new ≡ moved self.old line.now) }
+    {
+        if let Some(rule) = self.broken_first(line) {
+            return Ok(Some(rule));
+        }
+        if !self.jobs.take(&self.ring, line)? {
+            return Ok(Some(Rule::Fetch));
+        }
+        if !self.ring.allows_overrun(line) {
+            return Ok(Some(Rule::Overrun));
+        }
+        self.ring.see(line)?;
+        self.memory.see(line)?;
+        Ok(None)
+    }
+
     // Takes in a line, as far as it tells of moves.
     fn see_moves(&mut self, line: &Line) -> Result<(), OutOfMemory>
         ensures { IfOk result (λ _. self.new ≡ moved self.old line.now) }
@@ -102,135 +176,19 @@ impl Trace {
         Ok(())
     }
 
-    /// Takes in a line. After want of memory nothing more can be told of the report.
-    pub fn see(&mut self, line: &Line) -> Result<(), OutOfMemory>
-        ensures { IfOk result (λ _. self.new ≡ seen self.old line.now) }
+    // The first rule on moves that the line breaks, where moves are shown before it. Where it breaks
+    // none, it is taken in, as far as it tells of moves.
+    fn take_shown(&mut self, line: &Line) -> Result<Option<Rule>, OutOfMemory>
+        ensures told { IfOk result (λ broken. broken ≡ broken_where_shown self.old line.now) }
+        ensures taken { IfOk result (λ broken. broken ≡ None → self.new ≡ moves_after self.old line.now) }
     {
+        if self.outline.is_shown() {
+            return self.take_move(line);
+        }
         if self.outline.shows_after(line) {
             self.see_moves(line)?;
         }
-        // A move tells nothing of requests.
-        if let Line::Move(_) = line {
-            self.outline.see_move();
-            return Ok(());
-        }
-        if !self.outline.is_hostile_after(line) {
-            self.requests.see(line)?;
-        }
-        self.outline.see(line);
-        Ok(())
-    }
-
-    // Whether each touch and each map in the line goes by the entries and mappings that stand.
-    fn allows_touch(&self, line: &Line) -> bool
-        ensures { result ≡ allows_touch self.now line.now }
-    {
-        self.memory.touches_a_mapping(line) && self.memory.answers_map(line)
-    }
-
-    // Whether what the back does in the line follows from the entries that it read.
-    fn allows_fetch(&self, line: &Line) -> bool
-        ensures { result ≡ allows_fetch self.now line.now }
-    {
-        self.ring.allows_stretch(line)
-            && self.jobs.allows_step(line)
-            && self.jobs.allows_effect(line)
-            && self.jobs.allows_data(line)
-            && self.jobs.allows_reply(&self.ring, line)
-    }
-
-    // The first rule on moves that the line breaks.
-    fn broken_move(&self, line: &Line) -> Option<Rule>
-        ensures { result ≡ broken_move self.now line.now }
-    {
-        if !self.memory.shows_what_is_there(line) {
-            Some(Rule::Coherent)
-        } else if !self.allows_touch(line) {
-            Some(Rule::Touch)
-        } else if !self.allows_fetch(line) {
-            Some(Rule::Fetch)
-        } else if !self.ring.allows_overrun(line) {
-            Some(Rule::Overrun)
-        } else {
-            None
-        }
-    }
-
-    // The same of a line that is no move of the back's side: only what the line before left open is
-    // asked of it beside memory.
-    #[inline(always)]
-    fn broken_by_front(&self, line: &Line) -> Option<Rule>
-        requires touches { touches_a_mapping self.now.memory line.now ≡ true }
-        requires maps { answers_map self.now.memory line.now ≡ true }
-        requires stretches { allows_stretch self.now.ring line.now ≡ true }
-        requires steps { allows_step self.now.jobs line.now ≡ true }
-        requires words { allows_data self.now.jobs line.now ≡ true }
-        ensures { result ≡ broken_move self.now line.now }
-    {
-        if !self.memory.shows_what_is_there(line) {
-            Some(Rule::Coherent)
-        } else if !self.jobs.allows_effect(line) || !self.jobs.allows_reply(&self.ring, line) {
-            Some(Rule::Fetch)
-        } else if !self.ring.allows_overrun(line) {
-            Some(Rule::Overrun)
-        } else {
-            None
-        }
-    }
-
-    // The same of a line in which a job reads a word: nothing is asked of its answer to a map, of
-    // entries and of data.
-    #[inline(always)]
-    fn broken_by_read(&self, line: &Line) -> Option<Rule>
-        requires maps { answers_map self.now.memory line.now ≡ true }
-        requires stretches { allows_stretch self.now.ring line.now ≡ true }
-        requires words { allows_data self.now.jobs line.now ≡ true }
-        ensures { result ≡ broken_move self.now line.now }
-    {
-        if !self.memory.shows_what_is_there(line) {
-            Some(Rule::Coherent)
-        } else if !self.memory.touches_a_mapping(line) {
-            Some(Rule::Touch)
-        } else if !self.allows_job(line) {
-            Some(Rule::Fetch)
-        } else if !self.ring.allows_overrun(line) {
-            Some(Rule::Overrun)
-        } else {
-            None
-        }
-    }
-
-    // Whether what a job does in the line follows from the entries, but for data.
-    #[inline(always)]
-    fn allows_job(&self, line: &Line) -> bool
-        requires stretches { allows_stretch self.now.ring line.now ≡ true }
-        requires words { allows_data self.now.jobs line.now ≡ true }
-        ensures { result ≡ allows_fetch self.now line.now }
-    {
-        self.jobs.allows_step(line)
-            && self.jobs.allows_effect(line)
-            && self.jobs.allows_reply(&self.ring, line)
-    }
-
-    // The first rule on moves that the line breaks, where moves are shown.
-    fn broken_where_shown(&self, line: &Line) -> Option<Rule>
-        ensures { result ≡ broken_where_shown self.now line.now }
-    {
-        if !self.outline.is_shown() {
-            return None;
-        }
-        match line {
-            Line::Move(Move::FrontRead { .. }) | Line::Move(Move::FrontWrite { .. }) => {
-                self.broken_by_front(line)
-            }
-            Line::Move(
-                Move::Read {
-                    who: BackMover::Job(_),
-                    ..
-                },
-            ) => self.broken_by_read(line),
-            _ => self.broken_move(line),
-        }
+        Ok(None)
     }
 
     // The first rule on requests that the line breaks, up to the first hostile line.
@@ -244,16 +202,38 @@ impl Trace {
         }
     }
 
-    /// The first rule that the line breaks where it comes next; `None` where it breaks none.
-    pub fn broken_by(&self, line: &Line) -> Option<Rule>
-        ensures { result ≡ broken_by self.now line.now }
+    // Takes in a line, as far as it doesn't tell of moves. A move tells nothing of requests.
+    fn see_rest(&mut self, line: &Line) -> Result<(), OutOfMemory>
+        ensures { IfOk result (λ _. self.new ≡ record self.old { outline = outlined self.old.outline line.now; requests = requests_after self.old line.now }) }
+    {
+        if let Line::Move(_) = line {
+            self.outline.see_move();
+            return Ok(());
+        }
+        if !self.outline.is_hostile_after(line) {
+            self.requests.see(line)?;
+        }
+        self.outline.see(line);
+        Ok(())
+    }
+
+    /// The first rule that the line breaks where it comes next; where it breaks none, it is taken in.
+    /// Else, and after want of memory, nothing more can be told of the report.
+    pub fn take(&mut self, line: &Line) -> Result<Option<Rule>, OutOfMemory>
+        ensures told { IfOk result (λ broken. broken ≡ broken_by self.old line.now) }
+        ensures taken { IfOk result (λ broken. broken ≡ None → self.new ≡ seen self.old line.now) }
     {
         if !self.outline.allows(line) {
-            return Some(Rule::Order);
+            return Ok(Some(Rule::Order));
         }
         match self.broken_while_honest(line) {
-            Some(rule) => Some(rule),
-            None => self.broken_where_shown(line),
+            Some(rule) => return Ok(Some(rule)),
+            None => {}
         }
+        if let Some(rule) = self.take_shown(line)? {
+            return Ok(Some(rule));
+        }
+        self.see_rest(line)?;
+        Ok(None)
     }
 }

@@ -30,10 +30,55 @@ impl OpenJob {
         ensures kept { OnErr result (self.new ≡ self.old) }
     {
         let spot = self.next_spot(made);
+        self.read_to(spot, rows, value)
+    }
+
+    /// The same where the move may come now, and whether it may: else nothing changes. How far the job
+    /// comes by it is worked out once for both.
+    pub fn read_where_next(
+        &mut self,
+        kept: &KeptMappings,
+        rows: u64,
+        made: &Move,
+        value: u32,
+    ) -> Result<bool, OutOfMemory>
+        ensures told { IfOk result (λ may. may ≡ may_step self.old kept.now made.now) }
+        ensures moved { IfOk result (λ may. may ≡ true → self.new ≡ with_end rows (after_word (walked_by self.old made.now) value)) }
+    {
+        let spot = self.next_spot(made);
+        if !self.may_come_to(spot, kept, made) {
+            return Ok(false);
+        }
+        self.read_to(spot, rows, value)?;
+        Ok(true)
+    }
+
+    // Takes a word that the job read, and the place that it comes to.
+    fn read_to(&mut self, spot: Option<Spot>, rows: u64, value: u32) -> Result<(), OutOfMemory>
+        ensures moved { OnOk result (self.new ≡ with_end rows (after_word (record self.old { spot = spot }) value)) }
+        ensures kept { OnErr result (self.new ≡ self.old) }
+    {
         self.take_word(value)?;
         self.spot = spot;
         self.note_end(rows);
         Ok(())
+    }
+
+    // Whether a move of the job's own may come now, where it takes the job to this place.
+    fn may_come_to(&self, next: Option<Spot>, kept: &KeptMappings, made: &Move) -> bool
+        requires { next ≡ (walked_by self.now made.now).spot }
+        ensures { result ≡ may_step self.now kept.now made.now }
+    {
+        let Some(_) = next else {
+            return false;
+        };
+        let Some(s) = self.spot else {
+            return false;
+        };
+        match self.tasks.get(s.done) {
+            None => false,
+            Some(task) => !self.failed && is_through(kept, task, s, made),
+        }
     }
 
     /// Takes a move of the job's own that reads no word and doesn't move the disk, where so many rows

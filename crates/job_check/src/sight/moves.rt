@@ -4,8 +4,9 @@ ghost use Rattle.blk_base.specs.Becomes.{Becomes};
 ghost use Rattle.schedule_text.specs.declared.line.Line.TheVariants as lines;
 ghost use Rattle.report_rules.specs.Stretch.{entry_of};
 ghost use Rattle.report_rules.specs.Step.{stepper};
-ghost use Rattle.job_check.specs.Open.{opened, with_end, after_word, walked_by, is_word_read, is_disk_move, moved_by};
-ghost use Rattle.job_check.specs.State.{fetched_with, job_changed, fetched_by, after_entry_word, after_step, entry_value_seen, with_kept, after_line};
+ghost use Rattle.job_check.specs.Open.{opened, is_word_read, is_disk_move, moved_by};
+ghost use Rattle.job_check.specs.Verdict.{may_step_of};
+ghost use Rattle.job_check.specs.State.{fetched_with, job_at, job_changed, after_word_read, fetched_by, after_entry_word, after_step, entry_value_seen, with_kept, after_line};
 
 use super::{JobSight, value_written};
 use crate::kept::Made;
@@ -63,13 +64,31 @@ impl JobSight {
 
     // Takes a word that a job read, if the job is open.
     pub(super) fn read_by_job(&mut self, k: u64, made: &Move, value: u32) -> Result<(), OutOfMemory>
-        ensures read { OnOk result (self.new ≡ job_changed self.old k (λ o. with_end self.old.replies.rows (after_word (walked_by o made.now) value))) }
+        ensures read { OnOk result (self.new ≡ after_word_read self.old k made.now value) }
         ensures kept { OnErr result (self.new ≡ self.old) }
     {
         let rows = self.replies.rows();
         match self.jobs.get_mut(&k) {
             None => Ok(()),
             Some(job) => job.read(rows, made, value),
+        }
+    }
+
+    // Takes a word that a job reads, where the job is open and the move may be its next step, and
+    // whether that is so: else nothing changes.
+    pub(crate) fn read_where_next(
+        &mut self,
+        k: u64,
+        made: &Move,
+        value: u32,
+    ) -> Result<bool, OutOfMemory>
+        ensures told { IfOk result (λ may. may ≡ may_step_of (job_at self.old.jobs k) self.old.kept made.now) }
+        ensures read { IfOk result (λ may. may ≡ true → self.new ≡ after_word_read self.old k made.now value) }
+    {
+        let rows = self.replies.rows();
+        match self.jobs.get_mut(&k) {
+            None => Ok(false),
+            Some(job) => job.read_where_next(&self.kept, rows, made, value),
         }
     }
 

@@ -33,8 +33,8 @@ returns-in-Err g c =
 
 pub returns-in-Some : goal.returns-in-Some
 returns-in-Some g c =
-    record { finds = finds_broken _ _ _ _ _ _ _ _ _ _ c.loop-trace.invariant (given_as _ _ _ _ _ _ (given_more _ _ _ c.in-Ok-true.is c.in-Ok-true.field-0-test) c.next_into.ensures) (sym c.broken_by.ensures ∙ search rules) }
+    record { finds = finds_broken _ _ _ _ _ _ _ _ _ _ c.loop-trace.invariant (given_as _ _ _ _ _ _ (given_more _ _ _ c.in-Ok-true.is c.in-Ok-true.field-0-test) c.next_into.ensures) (sym c.in_ok-rule.ensures.told ∙ c.in-Some.is) }
 
 pub loop-trace-preserved : goal.loop-trace-preserved
 loop-trace-preserved g c =
-    further _ _ _ _ _ _ _ _ _ _ c.loop-trace.invariant (given_as _ _ _ _ _ _ (given_more _ _ _ c.in-Ok-true.is c.in-Ok-true.field-0-test) c.next_into.ensures) (sym c.broken_by.ensures ∙ search rules) (search rules)
+    further _ _ _ _ _ _ _ _ _ _ c.loop-trace.invariant (given_as _ _ _ _ _ _ (given_more _ _ _ c.in-Ok-true.is c.in-Ok-true.field-0-test) c.next_into.ensures) (sym c.in_ok-rule.ensures.told ∙ c.in_default.is) (c.in_ok-rule.ensures.taken c.in_default.is)
