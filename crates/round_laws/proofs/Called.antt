@@ -1,5 +1,5 @@
 -- Where the calls say so, rounds are of words alone, and all their words may be moved at once.
-use Rattle.std.proofs.Common.{◌≡◌, ◌≢◌, ℕ, List, [], ◌∷◌, map, sym, subst}
+use Rattle.std.proofs.Common.{◌≡◌, ◌≢◌, ℕ, List, [], ◌∷◌, map, refl, sym, subst}
 use Rattle.std.specs.Prelude.{Option, Some, None, IfSome}
 use Rattle.hypervisor.specs.Hypervisor.{Hypervisor}
 use Rattle.blk_front.specs.declared.sector_part.SectorPart.{SectorPart as FrontPart}
@@ -7,9 +7,13 @@ use Rattle.back_jobs.specs.declared.part.SectorPart.{SectorPart as JobPart}
 use Rattle.back_jobs.specs.Work.{Work}
 use Rattle.blk_back.specs.View.{View}
 use Rattle.vbd_front.specs.Part.{sector_part}
-use Rattle.vbd_model.specs.World.{World, frontend_of}
+use Rattle.vbd_back.specs.View.{View as Backend}
+use Rattle.vbd_back.specs.Part.{entry_part}
+use Rattle.vbd_model.specs.World.{World, frontend_of, backend_of}
 use Rattle.round_laws.specs.Movers.{part_of, frame_under, IsOutside, AreApart}
+use Rattle.round_laws.specs.AtOnce.{back_moved}
 use Rattle.round_laws.specs.Calls.{NoneMoves, MoveApart, CallsSayWords, AskForTheirs, JobsMayMove, MayMoveAtOnce}
+use Rattle.round_laws.proofs.BackReads.{HasCopied, stays_busy}
 use Rattle.round_laws.proofs.Visiting.{each_is_visited}
 use Rattle.round_laws.proofs.Asking.{each_asks, each_goes_on}
 
@@ -49,23 +53,29 @@ may_move n w front_told back_told say =
         back_told = back_told;
         unhalted = say.unhalted;
         back = say.back;
-        untaken = say.untaken;
         front = say.front;
         jobs = each_goes_on n v say.numbers say.unhalted say.jobs.visited say.jobs.all say.jobs.says;
         ordered = there.0;
         front_apart = front_outside h v (sector_part (frontend_of w)) v.jobs.works asks
             (subst (λ (l : List ℕ). IfSome (sector_part (frontend_of w)) (λ p. NoneMoves h v p.frame l)) (sym there.1) say.front_apart);
+        back_apart = part_outside h v (entry_part (backend_of w)) v.jobs.works asks
+            (subst (λ (l : List ℕ). IfSome (entry_part (backend_of w)) (λ p. NoneMoves h v (frame_under h p) l)) (sym there.1) say.back_apart);
+        ends_apart = say.ends_apart;
         jobs_apart = all_apart h v v.jobs.works asks (subst (MoveApart h v) (sym there.1) say.jobs.apart);
       };
       parts = asks;
     }
 
-pub jobs_may_move : (n : ℕ) (w : World) → MayMoveAtOnce n w → JobsMayMove n w.rings.under w.rings.back
-jobs_may_move n w may = record {
-  unhalted = may.words.unhalted;
-  told = may.words.back_told;
-  ordered = may.words.ordered;
-  jobs = may.words.jobs;
-  parts = may.parts;
-  apart = may.words.jobs_apart;
-}
+-- also once the back has copied so many words
+pub jobs_may_move : (n : ℕ) (w : World) → MayMoveAtOnce n w → JobsMayMove n w.rings.under (let b : Backend = back_moved n w in b.ring)
+jobs_may_move n w may =
+    let c : HasCopied w n (entry_part (backend_of w)) = (stays_busy w n (entry_part (backend_of w)) refl may.words.back).copied in
+    subst (λ (b : Backend). JobsMayMove n w.rings.under b.ring) (sym c.is)
+    (record {
+      unhalted = may.words.unhalted;
+      told = may.words.back_told;
+      ordered = may.words.ordered;
+      jobs = may.words.jobs;
+      parts = may.parts;
+      apart = may.words.jobs_apart;
+    })

@@ -11,11 +11,14 @@ use Rattle.back_jobs.specs.Work.{Work}
 use Rattle.blk_back.specs.View as back_ring
 use Rattle.vbd_front.specs.View.{View}
 use Rattle.vbd_front.specs.Part.{sector_part, steps_of}
-use Rattle.vbd_model.specs.World.{World, frontend_of}
+use Rattle.vbd_back.specs.View.{View as Backend}
+use Rattle.vbd_back.specs.Part.{entry_part}
+use Rattle.vbd_model.specs.World.{World, frontend_of, backend_of}
 use Rattle.round_laws.specs.Movers.{front_answers, front_answers_to, front_writes, front_writes_to, job_moved, jobs_write, FrontGoesOn, IsOutside}
-use Rattle.round_laws.specs.AtOnce.{with_jobs, front_moved, moved}
+use Rattle.round_laws.specs.AtOnce.{with_jobs, front_moved, back_moved, moved}
 use Rattle.round_laws.specs.Calls.{MayMoveAtOnce}
 use Rattle.round_laws.proofs.Frames.{AllFit, jobs_fit, jobs_keep, jobs_past}
+use Rattle.round_laws.proofs.BackReads.{HasCopied, stays_busy}
 use Rattle.round_laws.proofs.Moving.{words_agree, AllMoved}
 
 module _ (h : Hypervisor) (n : ℕ) (works : List Work) (fits : AllFit h n works) where
@@ -50,7 +53,7 @@ module _ (h : Hypervisor) (n : ℕ) (works : List Work) (fits : AllFit h n works
             ap all_read (words_agree (jobs_write h n works h.pages) h.pages p.frame p.word n (omega (arith, few, within)) (λ u short. jobs_keep h n works h.pages p.frame u fits outside short))
 
 -- the machine with both ends moved
-pub all_at_once : (n : ℕ) (w : World) (f : View) (b : back_ring.View) (t u : Hypervisor) → MayMoveAtOnce n w → AllMoved n w.rings.under w.rings.back b t
+pub all_at_once : (n : ℕ) (w : World) (f : View) (b : back_ring.View) (t u : Hypervisor) → MayMoveAtOnce n w → AllMoved n w.rings.under (let c : Backend = back_moved n w in c.ring) b t
     → f ≡ steps_of (frontend_of w) (front_answers (sector_part (frontend_of w)) t.pages n) → u ≡ with_pages t (front_writes (sector_part (frontend_of w)) n t.pages)
     → record { rings = record { front = f.ring; back = b; under = u }; front = f.bus; back = w.back } ≡ moved n w
 all_at_once n w f b t u may all stepped wrote =
@@ -58,15 +61,20 @@ all_at_once n w f b t u may all stepped wrote =
     let o : Option FrontPart = sector_part (frontend_of w) in
     let works : List Work = w.rings.back.jobs.works in
     let fits : AllFit h n works = jobs_fit n w.rings.back works h may.words.jobs in
+    let c : Backend = back_moved n w in
+    let copied : HasCopied w n (entry_part (backend_of w)) = (stays_busy w n (entry_part (backend_of w)) refl may.words.back).copied in
+    let same : c.ring.jobs.works ≡ works = ap (λ (x : Backend). x.ring.jobs.works) copied.is in
+    let back : b ≡ with_jobs c.ring (map (job_moved h n) works) = all.back ∙ ap (λ (l : List Work). with_jobs c.ring (map (job_moved h n) l)) same in
+    let under : t ≡ with_pages h (jobs_write h n works h.pages) = all.under ∙ ap (λ (l : List Work). with_pages h (jobs_write h n l h.pages)) same in
     let written : List ℕ = jobs_write h n works h.pages in
     let front : f ≡ front_moved n w =
     stepped
-    ∙ (ap (λ (y : Hypervisor). steps_of (frontend_of w) (front_answers o y.pages n)) all.under
+    ∙ (ap (λ (y : Hypervisor). steps_of (frontend_of w) (front_answers o y.pages n)) under
     ∙ ap (steps_of (frontend_of w)) (answers_past h n works fits w o may.words.front may.words.front_apart)) in
     let memory : u ≡ with_pages h (jobs_write h n works (front_writes o n h.pages)) =
     wrote
-    ∙ (ap (λ (y : Hypervisor). with_pages y (front_writes o n y.pages)) all.under
+    ∙ (ap (λ (y : Hypervisor). with_pages y (front_writes o n y.pages)) under
     ∙ ap (with_pages h) (writes_past h n works fits w o may.words.front may.words.front_apart)) in
     ap (λ (x : View). record { rings = record { front = x.ring; back = b; under = u }; front = x.bus; back = w.back }) front
-    ∙ (ap (λ (x : back_ring.View). record { rings = record { front = (front_moved n w).ring; back = x; under = u }; front = (front_moved n w).bus; back = w.back }) all.back
-    ∙ ap (λ (x : Hypervisor). record { rings = record { front = (front_moved n w).ring; back = with_jobs w.rings.back (map (job_moved w.rings.under n) works); under = x }; front = (front_moved n w).bus; back = w.back }) memory)
+    ∙ (ap (λ (x : back_ring.View). record { rings = record { front = (front_moved n w).ring; back = x; under = u }; front = (front_moved n w).bus; back = w.back }) back
+    ∙ ap (λ (x : Hypervisor). record { rings = record { front = (front_moved n w).ring; back = with_jobs c.ring (map (job_moved h n) works); under = x }; front = (front_moved n w).bus; back = w.back }) memory)

@@ -6,6 +6,9 @@ pub mod Waits
 pub mod Jobs
 pub mod Pass
 pub mod Alike
+pub mod BackWords
+pub mod BackReads
+pub mod FrontReads
 pub mod Rounds
 pub mod Unseen
 pub mod Visiting

@@ -1,43 +1,50 @@
 -- A round of words, and so many of them.
-use Rattle.std.proofs.Common.{◌≡◌, ◌≢◌, ℕ, zero, suc, ◌+◌, ◌<◌, Bool, true, false, not, ◌&&◌, List, [], ◌∷◌, ◌++◌, map, refl, sym, ap, ◌∙◌, subst, arith}
+use Rattle.std.proofs.Common.{◌≡◌, ◌≢◌, ℕ, zero, suc, ◌<◌, Bool, true, false, not, ◌&&◌, List, [], ◌∷◌, ◌++◌, map, refl, sym, ap, ◌∙◌, subst, arith}
 use Rattle.std.specs.Prelude.{Option, Some, None, IfSome, fold}
 use Rattle.std.specs.List.{AllByRecursion}
 use Rattle.blk_base.specs.declared.parts.End.TheVariants as end
-use Rattle.blk_base.specs.declared.ask.FrontAnswer.TheVariants.{Done, Word}
 use Rattle.xen_pages.specs.Pages.{word_of}
 use Rattle.hypervisor.specs.Hypervisor.{Hypervisor}
-use Rattle.hypervisor.specs.Act.{FrontAct, front_act, with_pages, has_to_take}
+use Rattle.hypervisor.specs.Act.{has_to_take}
 use Rattle.blk_front.specs.declared.sector_part.SectorPart.{SectorPart as FrontPart}
 use Rattle.blk_front.specs.Submit.{is_wait}
 use Rattle.back_jobs.specs.declared.part.SectorPart.{SectorPart as JobPart}
 use Rattle.back_jobs.specs.Work.{Work, step_of as step_of_job}
 use Rattle.back_jobs.specs.Part.{values_at}
+use Rattle.blk_back.specs.declared.stage.BackStage.{BackStage}
 use Rattle.blk_back.specs.View as back_ring
+use Rattle.blk_back.specs.View.{RingInfo}
 use Rattle.blk_back.specs.Step.{next_job_of}
 use Rattle.vbd_front.specs.View.{View}
-use Rattle.vbd_front.specs.Ask.{ask_of, is_waiting}
-use Rattle.vbd_front.specs.Step.{step_of}
+use Rattle.vbd_front.specs.Ask.{is_waiting}
 use Rattle.vbd_front.specs.Part.{sector_part, steps_of}
+use Rattle.vbd_back.specs.View.{View as Backend, both}
 use Rattle.vbd_back.specs.Ask.{is_idle}
+use Rattle.vbd_back.specs.Part.{entry_part, steps_of as back_steps}
 use Rattle.vbd_model.specs.World.{World, frontend_of, backend_of, is_quiet}
 use Rattle.vbd_model.specs.Happening.{Happening, FrontMoves, BackMoves}
 use Rattle.vbd_model.specs.Kind.{AreAllJobs, IsRound, AreRounds, never, round_start}
 use Rattle.vbd_model.proofs.Joining.{rounds_more}
-use Rattle.round_laws.specs.Movers.{front_answers, front_answers_to, front_writes, front_writes_to, part_of, frame_under, job_moved, job_answers, job_answers_to, job_writes_to, job_writes, jobs_write, FrontGoesOn, JobGoesOn, IsOutside}
-use Rattle.round_laws.specs.AtOnce.{with_jobs, with_movers, front_moved, moved, AreOfWords, Passes, LeadThere}
+use Rattle.round_laws.specs.Movers.{BackGoesOn, back_answers, front_answers, front_answers_to, front_writes, front_writes_to, part_of, frame_under, job_moved, job_answers, job_answers_to, job_writes_to, job_writes, jobs_write, FrontGoesOn, JobGoesOn, IsOutside}
+use Rattle.round_laws.specs.AtOnce.{with_jobs, with_back, with_movers, front_moved, moved, AreOfWords, Passes, LeadThere}
 use Rattle.round_laws.specs.Laws.{RoundsLeadThere}
-use Rattle.round_laws.proofs.Frames.{job_less, AllFit, one_more, jobs_fit, jobs_keep, jobs_past, front_more, words_apart}
-use Rattle.round_laws.proofs.FrontWords.{IsNext, next_word, word_asked}
+use Rattle.round_laws.proofs.Frames.{job_less, AllFit, one_more, jobs_fit, jobs_keep, words_apart}
+use Rattle.round_laws.proofs.FrontWords.{next_word, word_asked}
+use Rattle.round_laws.proofs.FrontReads.{front_passes}
 use Rattle.round_laws.proofs.Passing.{passes_none, passes_on, passes_to}
-use Rattle.round_laws.proofs.Waits.{IsWord, front_waits, front_moves, front_there, back_waits}
 use Rattle.round_laws.proofs.Jobs.{none_behind}
 use Rattle.round_laws.proofs.Pass.{AllAgree, Agrees, all_pass, JobsPass}
-use Rattle.round_laws.proofs.Alike.{back_waits_so, back_idle_so}
+use Rattle.round_laws.proofs.Alike.{back_idle_so}
+use Rattle.round_laws.proofs.BackReads.{BackPasses, back_passes, StaysBusy, stays_busy}
 
 -- each that goes on so long goes on for less
 front_less : (n : ℕ) (w : World) (o : Option FrontPart) → FrontGoesOn (suc n) w o → FrontGoesOn n w o
 front_less n w None goes = goes
 front_less n w (Some p) goes = (let more = goes.0 in omega arith, goes.1, goes.2)
+
+back_less : (n : ℕ) (v : Backend) (h : Hypervisor) (o : Option JobPart) → BackGoesOn (suc n) v h o → BackGoesOn n v h o
+back_less n v h None goes = goes
+back_less n v h (Some p) goes = (let more = goes.0 in omega arith, goes.1, goes.2)
 
 jobs_less : (n : ℕ) (v : back_ring.View) (works : List Work) → AllByRecursion (λ (t : Work). JobGoesOn (suc n) v t (part_of t)) works → AllByRecursion (λ (t : Work). JobGoesOn n v t (part_of t)) works
 jobs_less n v [] goes = tt
@@ -48,12 +55,13 @@ less n w is = record {
   front_told = is.front_told;
   back_told = is.back_told;
   unhalted = is.unhalted;
-  back = is.back;
-  untaken = is.untaken;
+  back = back_less n (backend_of w) w.rings.under (entry_part (backend_of w)) is.back;
   front = front_less n w (sector_part (frontend_of w)) is.front;
   jobs = jobs_less n w.rings.back w.rings.back.jobs.works is.jobs;
   ordered = is.ordered;
   front_apart = is.front_apart;
+  back_apart = is.back_apart;
+  ends_apart = is.ends_apart;
   jobs_apart = is.jobs_apart;
 }
 
@@ -83,60 +91,15 @@ module _ (w : World) where
   abbrev at : View → List Work → List ℕ → World
   at f l pages = with_movers w f l pages
 
-  -- the front's move, where memory has at first what it reads
-  module _ (n : ℕ) (now : List Work) (pages then : List ℕ) where
-    word_moves : (p : FrontPart) (value : Option ℕ) (f g : View) (a : FrontAct) → IsNext h.pages n v f p value → g ≡ step_of f a.answer → g.ring.told ≡ None
-        → front_act (with_pages h pages) (word_asked p value n) ≡ Some a → a.under ≡ with_pages h then → IsWord (word_asked p value n)
-        → Passes (FrontMoves ∷ []) (at f now pages) (at g now then)
-    word_moves p value f g a next is quiet act under word =
-        let m : World = at f now pages in
-        let same : frontend_of m ≡ f = ap (λ x. record { ring = f.ring; bus = f.bus; news = x }) (sym next.news) in
-        let asked : ask_of (frontend_of m) ≡ word_asked p value n = ap ask_of same ∙ next.asks in
-        let stepped : step_of (frontend_of m) a.answer ≡ g = ap (λ x. step_of x a.answer) same ∙ sym is in
-        passes_to (FrontMoves ∷ []) m (front_there m a (step_of (frontend_of m) a.answer)) (at g now then)
-        (ap (front_there m a) stepped ∙ ap (λ (u : Hypervisor). record { rings = record { front = g.ring; back = with_jobs w.rings.back now; under = u }; front = g.bus; back = w.back }) under)
-        (front_moves m a (subst IsWord (sym asked) word) (ap (front_act (with_pages h pages)) asked ∙ act) (subst (λ (x : View). x.ring.told ≡ None) (sym stepped) quiet))
-
-  -- the front comes to one word more, or waits
-  front_passes : (n : ℕ) (o : Option FrontPart) → sector_part v ≡ o → FrontGoesOn (suc n) w o → w.rings.front.told ≡ None → (now : List Work) → AllFit h n works → IfSome o (λ p. IsOutside h p.frame works)
-      → Passes (FrontMoves ∷ []) (at (steps_of v (front_answers o h.pages n)) now (jobs_write h n works (front_writes o n h.pages)))
-      (at (steps_of v (front_answers o h.pages (suc n))) now (jobs_write h n works (front_writes o (suc n) h.pages)))
-  front_passes n None is goes quiet now fits outside =
-      front_waits (at v now (jobs_write h n works h.pages)) goes.0 goes.1
-  front_passes n (Some p) is goes quiet now fits outside = by_value p.value refl
+  -- the front's words leave other frames as they are
+  front_keeps : (n : ℕ) (o : Option FrontPart) (other u : ℕ) → FrontGoesOn n w o → IfSome o (λ p. other ≢ p.frame) → u < 1024 → word_of (front_writes o n h.pages) other u ≡ word_of h.pages other u
+  front_keeps n None other u goes apart short = refl
+  front_keeps n (Some p) other u goes apart short = by_value p.value
     where
-      few : n < p.count
-      few = let more = goes.0 in omega arith
+      by_value : (value : Option ℕ) → word_of (front_writes_to p value n h.pages) other u ≡ word_of h.pages other u
+      by_value (Some value) = words_apart h.pages p.frame p.word other u n value (λ same. apart (sym same)) (let more = goes.0 in let within = goes.1 in omega arith) short
+      by_value None = refl
 
-      short : p.word + n < 1024
-      short = let more = goes.0 in let within = goes.1 in omega arith
-
-      next : IsNext h.pages n v (steps_of v (front_answers_to p p.value h.pages n)) p p.value
-      next = next_word h.pages v p is goes.2 quiet n few
-
-      later : IsNext h.pages (suc n) v (steps_of v (front_answers_to p p.value h.pages (suc n))) p p.value
-      later = next_word h.pages v p is goes.2 quiet (suc n) goes.0
-
-      by_value : (o : Option ℕ) → p.value ≡ o
-          → Passes (FrontMoves ∷ []) (at (steps_of v (front_answers_to p o h.pages n)) now (jobs_write h n works (front_writes_to p o n h.pages)))
-          (at (steps_of v (front_answers_to p o h.pages (suc n))) now (jobs_write h n works (front_writes_to p o (suc n) h.pages)))
-      by_value (Some value) way =
-          let one = subst (λ (x : Option ℕ). IsNext h.pages n v (steps_of v (front_answers_to p x h.pages n)) p x) way next in
-          let two = subst (λ (x : Option ℕ). IsNext h.pages (suc n) v (steps_of v (front_answers_to p x h.pages (suc n))) p x) way later in
-          word_moves n now (jobs_write h n works (front_writes_to p (Some value) n h.pages)) (jobs_write h n works (front_writes_to p (Some value) (suc n) h.pages)) p (Some value) _ _
-          (record { answer = Done; under = _; shown = _ }) one one.next two.told refl
-          (ap (with_pages h) (jobs_past h n works (front_writes_to p (Some value) n h.pages) p.frame (p.word + n) value fits outside short ∙ ap (jobs_write h n works) (sym (front_more p value n h.pages))))
-          tt
-      by_value None way =
-          let one = subst (λ (x : Option ℕ). IsNext h.pages n v (steps_of v (front_answers_to p x h.pages n)) p x) way next in
-          let two = subst (λ (x : Option ℕ). IsNext h.pages (suc n) v (steps_of v (front_answers_to p x h.pages (suc n))) p x) way later in
-          let all : List ℕ = jobs_write h n works h.pages in
-          let same : word_of all p.frame (p.word + n) ≡ word_of h.pages p.frame (p.word + n) = jobs_keep h n works h.pages p.frame (p.word + n) fits outside short in
-          word_moves n now all all p None _ _
-          (record { answer = Word (word_of all p.frame (p.word + n)); under = _; shown = _ }) one
-          (one.next ∙ ap (λ word. step_of (steps_of v (front_answers_to p None h.pages n)) (Word word)) (sym same)) two.told refl refl tt
-
-  -- the front's words leave the jobs' frames as they are
   agree_at_first : (n : ℕ) (o : Option FrontPart) (l : List Work) → FrontGoesOn n w o → IfSome o (λ p. IsOutside h p.frame l) → AllAgree h (front_writes o n h.pages) l
   agree_at_first n o [] goes outside = tt
   agree_at_first n None (t ∷ l) goes outside = (each (part_of t), agree_at_first n None l goes tt)
@@ -146,13 +109,20 @@ module _ (w : World) where
       each (Some q) = λ u short. refl
   agree_at_first n (Some p) (t ∷ l) goes outside = (each (part_of t) outside.0, agree_at_first n (Some p) l goes outside.1)
     where
-      by_value : (value : Option ℕ) (other u : ℕ) → other ≢ p.frame → u < 1024 → word_of (front_writes_to p value n h.pages) other u ≡ word_of h.pages other u
-      by_value (Some value) other u apart short = words_apart h.pages p.frame p.word other u n value (λ same. apart (sym same)) (let more = goes.0 in let within = goes.1 in omega arith) short
-      by_value None other u apart short = refl
-
-      each : (q : Option JobPart) → IfSome q (λ x. frame_under h x ≢ p.frame) → Agrees h (front_writes_to p p.value n h.pages) q
+      each : (q : Option JobPart) → IfSome q (λ x. frame_under h x ≢ p.frame) → Agrees h (front_writes (Some p) n h.pages) q
       each None apart = tt
-      each (Some q) apart = λ u short. by_value p.value (frame_under h q) u apart short
+      each (Some q) apart = λ u short. front_keeps n (Some p) (frame_under h q) u goes apart short
+
+  -- and so do theirs and the jobs' with the ring's frame
+  ring_agrees : (n m : ℕ) (o : Option FrontPart) (e : Option JobPart) → FrontGoesOn m w o → AllFit h n works → IfSome e (λ q. IsOutside h (frame_under h q) works) → IfSome e (λ q. IfSome o (λ p. p.frame ≢ frame_under h q))
+      → Agrees h (jobs_write h n works (front_writes o m h.pages)) e
+  ring_agrees n m o None goes fits outside apart = tt
+  ring_agrees n m o (Some q) goes fits outside apart = λ u short.
+      jobs_keep h n works (front_writes o m h.pages) (frame_under h q) u fits outside short ∙ front_keeps m o (frame_under h q) u goes (other_way o apart) short
+    where
+      other_way : (x : Option FrontPart) → IfSome x (λ p. p.frame ≢ frame_under h q) → IfSome x (λ p. frame_under h q ≢ p.frame)
+      other_way None differ = tt
+      other_way (Some p) differ = λ same. differ (sym same)
 
   -- a round
   record RoundPasses (n : ℕ) : Type 0 where
@@ -163,17 +133,27 @@ module _ (w : World) where
   round_passes : (n : ℕ) → AreOfWords (suc n) w → RoundPasses n
   round_passes n is =
       let o : Option FrontPart = sector_part v in
+      let e : Option JobPart = entry_part (backend_of w) in
       let l : List Work = map (job_moved h n) works in
       let goes = jobs_less n w.rings.back works is.jobs in
       let fits : AllFit h n works = jobs_fit n w.rings.back works h goes in
       let g : View = front_moved (suc n) w in
       let written : List ℕ = front_writes o (suc n) h.pages in
-      let mid : World = at g l (jobs_write h n works written) in
-      let front : Passes (FrontMoves ∷ []) (moved n w) mid = front_passes n o refl is.front is.front_told l fits is.front_apart in
-      let back : Passes (BackMoves ∷ []) mid mid = back_waits mid (back_waits_so h n w.rings.back goes w.back ∙ is.back) is.untaken in
-      let start : Passes round_start (moved n w) mid = passes_on (FrontMoves ∷ []) (BackMoves ∷ []) (moved n w) mid mid front back in
-      let jobs : JobsPass w g is.back_told is.unhalted n 0 [] works written =
-      all_pass w g is.back_told is.unhalted n works 0 [] [] written refl (none_behind 0) is.ordered is.jobs is.jobs_apart (agree_at_first (suc n) o works is.front is.front_apart) in
+      let pages : List ℕ = jobs_write h n works written in
+      let back : BackPasses w n g pages e =
+      back_passes w n g pages e refl is.back (back_less n (backend_of w) h e is.back) is.unhalted is.back_told goes (ring_agrees n (suc n) o e is.front fits is.back_apart is.ends_apart) in
+      let a : World = copying back.first.ring back.first.stage in
+      let b : World = copying back.then.ring back.then.stage in
+      let was : with_movers a (front_moved n w) l (jobs_write h n works (front_writes o n h.pages)) ≡ moved n w =
+      ap (λ (x : Backend). with_movers (with_back w x.ring) (front_moved n w) l (jobs_write h n works (front_writes o n h.pages))) (sym back.first.is) in
+      let will : with_movers b g (map (job_moved h (suc n)) works) (jobs_write h (suc n) works written) ≡ moved (suc n) w =
+      ap (λ (x : Backend). with_movers (with_back w x.ring) g (map (job_moved h (suc n)) works) (jobs_write h (suc n) works written)) (sym back.then.is) in
+      let front : Passes (FrontMoves ∷ []) (with_movers a (front_moved n w) l (jobs_write h n works (front_writes o n h.pages))) (with_movers a g l pages) = front_passes a n o refl is.front is.front_told l fits is.front_apart in
+      let mid : World = with_movers b g l pages in
+      let start : Passes round_start (moved n w) mid =
+      subst (λ (x : World). Passes round_start x mid) was (passes_on (FrontMoves ∷ []) (BackMoves ∷ []) _ (with_movers a g l pages) mid front back.passes) in
+      let jobs : JobsPass b g is.back_told is.unhalted n 0 [] works written =
+      all_pass b g is.back_told is.unhalted n works 0 [] [] written refl (none_behind 0) is.ordered is.jobs is.jobs_apart (agree_at_first (suc n) o works is.front is.front_apart) in
       record {
         history = round_start ++ jobs.history;
         is_round = record {
@@ -182,8 +162,11 @@ module _ (w : World) where
           are_jobs = subst (λ (m : World). AreAllJobs m jobs.history) (sym start.world)
               (record { to = jobs.to; each = jobs.each; last = subst (λ (m : World). next_job_of m.rings.back jobs.to ≡ None) (sym jobs.passes.world) jobs.last });
         };
-        passes = passes_on round_start jobs.history (moved n w) mid (moved (suc n) w) start jobs.passes;
+        passes = passes_to (round_start ++ jobs.history) (moved n w) _ (moved (suc n) w) will (passes_on round_start jobs.history (moved n w) mid _ start jobs.passes);
       }
+    where
+      copying : RingInfo → BackStage → World
+      copying ring stage = with_back w (record w.rings.back { ring = ring; stage = stage })
 
   -- all is quiet as it was
   front_asks_on : (n : ℕ) (p : FrontPart) → sector_part v ≡ Some p → FrontGoesOn n w (Some p) → w.rings.front.told ≡ None → is_waiting (frontend_of (at (steps_of v (front_answers_to p p.value h.pages n)) works h.pages)) ≡ false
@@ -210,10 +193,16 @@ module _ (w : World) where
       front_asks_on n p is goes quiet
       ∙ sym (ap (λ (f : View). is_waiting (frontend_of (at f works h.pages))) (sym (front_zero p p.value)) ∙ front_asks_on 0 p is (let more = goes.0 in omega arith, goes.1, goes.2) quiet)
 
+  back_quiet : (n : ℕ) → AreOfWords n w → is_idle (backend_of (moved n w)) ≡ is_idle (backend_of w)
+  back_quiet n is =
+      let busy : StaysBusy w n (entry_part (backend_of w)) = stays_busy w n (entry_part (backend_of w)) refl is.back in
+      ap (λ (x : Backend). is_idle (both (with_jobs x.ring (map (job_moved h n) works)) w.back)) busy.copied.is
+      ∙ (back_idle_so h n (record w.rings.back { ring = busy.copied.ring; stage = busy.copied.stage }) is.jobs w.back ∙ busy.idle)
+
   quiet_so : (n : ℕ) → AreOfWords n w → is_quiet (moved n w) ≡ is_quiet w
   quiet_so n is =
       ap (λ (b : Bool). b && is_idle (backend_of (moved n w)) && not (has_to_take h end.Front) && not (has_to_take h end.Back)) (front_quiet n (sector_part v) refl is.front is.front_told)
-      ∙ ap (λ (b : Bool). is_waiting v && b && not (has_to_take h end.Front) && not (has_to_take h end.Back)) (back_idle_so h n w.rings.back is.jobs w.back)
+      ∙ ap (λ (b : Bool). is_waiting v && b && not (has_to_take h end.Front) && not (has_to_take h end.Back)) (back_quiet n is)
 
   -- so many rounds
   moved_none : (o : Option FrontPart) (l : List Work) → l ≡ works → at (steps_of v (front_answers o h.pages 0)) l (jobs_write h 0 works (front_writes o 0 h.pages)) ≡ w
@@ -224,6 +213,11 @@ module _ (w : World) where
       by_part : (x : Option FrontPart) → at (steps_of v (front_answers x h.pages 0)) works (front_writes x 0 h.pages) ≡ w
       by_part None = refl
       by_part (Some p) = ap (λ (f : View). at f works (front_writes_to p p.value 0 h.pages)) (front_zero p p.value) ∙ ap (at v works) (front_zero_writes p p.value)
+
+  back_none : (o : Option JobPart) → with_movers (with_back w (let b : Backend = back_steps (backend_of w) (back_answers h o 0) in b.ring)) (front_moved 0 w) (map (job_moved h 0) works) (jobs_write h 0 works (front_writes (sector_part v) 0 h.pages))
+      ≡ at (front_moved 0 w) (map (job_moved h 0) works) (jobs_write h 0 works (front_writes (sector_part v) 0 h.pages))
+  back_none None = refl
+  back_none (Some p) = refl
 
   job_zero : (t : Work) → job_moved h 0 t ≡ t
   job_zero t = by_part (part_of t)
@@ -246,7 +240,7 @@ module _ (w : World) where
     rounds = refl;
     unquiet = λ busy. refl;
     still_quiet = quiet_so 0 is;
-    passes = passes_none w (moved 0 w) (sym (moved_none (sector_part v) (map (job_moved h 0) works) (jobs_zero works)));
+    passes = passes_none w (moved 0 w) (sym (back_none (entry_part (backend_of w)) ∙ moved_none (sector_part v) (map (job_moved h 0) works) (jobs_zero works)));
   }
   lead (suc n) is =
       let before : AreOfWords n w = less n w is in

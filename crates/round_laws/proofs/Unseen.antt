@@ -1,5 +1,5 @@
 -- Rounds of words leave a recorder that keeps no moves as it was, and each disk; and no mapping more may come.
-use Rattle.std.proofs.Common.{◌≡◌, ℕ, ◌+◌, List, [], ◌∷◌, ◌++◌, map, refl, sym, ap, ◌∙◌, arith}
+use Rattle.std.proofs.Common.{◌≡◌, ℕ, ◌+◌, ◌*◌, List, [], ◌∷◌, ◌++◌, map, refl, sym, ap, ◌∙◌, arith}
 use Rattle.std.specs.Prelude.{fold}
 use Rattle.std.specs.List.{AllByRecursion}
 use Rattle.blk_io.specs.Disk.{DiskSeen}
@@ -11,14 +11,17 @@ use Rattle.schedule_text.proofs.Adding.{gained_none}
 use Rattle.hypervisor.specs.Hypervisor.{Hypervisor}
 use Rattle.back_jobs.specs.Work.{Work}
 use Rattle.blk_back.specs.View as back_ring
-use Rattle.vbd_model.specs.World.{World}
+use Rattle.vbd_back.specs.View.{View as Backend}
+use Rattle.vbd_back.specs.Part.{entry_part}
+use Rattle.vbd_model.specs.World.{World, backend_of}
 use Rattle.vbd_model.specs.Happening.{lines_of}
 use Rattle.vbd_model.specs.Leads.{Keeps, moment}
-use Rattle.vbd_model.specs.Mappings.{maps_left}
+use Rattle.vbd_model.specs.Mappings.{maps_left, words_copied}
 use Rattle.round_laws.specs.Movers.{part_of, job_moved, JobGoesOn}
-use Rattle.round_laws.specs.AtOnce.{moved, AreOfWords, IsMoveLine, LeadThere}
+use Rattle.round_laws.specs.AtOnce.{back_moved, moved, AreOfWords, IsMoveLine, LeadThere}
 use Rattle.round_laws.specs.Laws.{RoundsGoUnseen}
 use Rattle.round_laws.proofs.JobWords.{maps_same}
+use Rattle.round_laws.proofs.BackReads.{HasCopied, stays_busy}
 use Rattle.round_laws.proofs.Rounds.{rounds_lead_there}
 
 -- lines of moves are not kept
@@ -46,10 +49,13 @@ maps_all h n v (t ∷ works) sum goes =
     ap (λ k. fold (λ a (u : Work). a + maps_left u) (sum + k) (map (job_moved h n) works)) (maps_same h n v t goes.0)
     ∙ maps_all h n v works (sum + maps_left t) goes.1
 
-keeps : (n : ℕ) (w : World) (d : DiskSeen) (r : RecorderSeen) → AreOfWords n w → Keeps 0 (moment w d r) (moment (moved n w) d r)
+keeps : (n : ℕ) (w : World) (d : DiskSeen) (r : RecorderSeen) → AreOfWords n w → Keeps (40 * n) (moment w d r) (moment (moved n w) d r)
 keeps n w d r is =
     let same = maps_all w.rings.under n w.rings.back w.rings.back.jobs.works 0 is.jobs in
-    record { made = omega (arith, same); sectors = refl; attachment = refl }
+    let c : HasCopied w n (entry_part (backend_of w)) = (stays_busy w n (entry_part (backend_of w)) refl is.back).copied in
+    let words : words_copied (let b : Backend = back_moved n w in b.ring.stage) ≡ words_copied c.stage = ap (λ (b : Backend). words_copied b.ring.stage) c.is in
+    let few = c.few in
+    record { made = omega (arith, same, words, few); sectors = ap (λ (b : Backend). b.ring.jobs.info.sectors) c.is; attachment = refl }
 
 pub rounds_go_unseen : RoundsGoUnseen
 rounds_go_unseen n w d r is plain =

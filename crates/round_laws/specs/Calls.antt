@@ -1,16 +1,14 @@
--- What the calls of both ends say where rounds move nothing but words of sectors, and when all those words may be moved at once.
-use Rattle.std.specs.Prelude.{◌≡◌, ◌≢◌, ℕ, true, false, List, [], ◌∷◌, length, None, IfSome}
+-- What the calls of both ends say where rounds move nothing but words, and when all those words may be moved at once.
+use Rattle.std.specs.Prelude.{◌≡◌, ◌≢◌, ℕ, List, [], ◌∷◌, length, None, IfSome}
 use Rattle.std.specs.List.{AllByRecursion}
-use Rattle.blk_base.specs.declared.parts.End.TheVariants as end
 use Rattle.hypervisor.specs.Hypervisor.{Hypervisor}
-use Rattle.hypervisor.specs.Act.{has_to_take}
 use Rattle.back_jobs.specs.Work.{Work}
 use Rattle.blk_back.specs.View.{View}
 use Rattle.blk_back.specs.Part.{job_part}
 use Rattle.vbd_front.specs.Part.{sector_part}
-use Rattle.vbd_back.specs.Ask.{is_waiting}
+use Rattle.vbd_back.specs.Part.{entry_part}
 use Rattle.vbd_model.specs.World.{World, frontend_of, backend_of}
-use Rattle.round_laws.specs.Movers.{part_of, frame_under, FrontGoesOn, JobGoesOn, AreApart, AreAbove, AreVisited, CallsSay}
+use Rattle.round_laws.specs.Movers.{part_of, frame_under, FrontGoesOn, BackGoesOn, JobGoesOn, AreApart, AreAbove, AreVisited, CallsSay}
 use Rattle.round_laws.specs.AtOnce.{AreOfWords}
 
 -- none of the jobs of these numbers moves words of this frame
@@ -29,15 +27,16 @@ pub record AllComeAndGoOn (n : ℕ) (h : Hypervisor) (v : View) (numbers : List 
   pub says : AllByRecursion (λ k. CallsSay n v k (job_part v k)) numbers
   pub apart : MoveApart h v numbers
 
--- the back waits, with nothing to take, and the front and each job go on so long or wait
+-- both ends and each job go on so long or wait
 pub record CallsSayWords (n : ℕ) (w : World) : Type 0 where
   pub unhalted : w.rings.back.halted ≡ None
-  pub back : is_waiting (backend_of w) ≡ true
-  pub untaken : has_to_take w.rings.under end.Back ≡ false
+  pub back : BackGoesOn n (backend_of w) w.rings.under (entry_part (backend_of w))
   pub front : FrontGoesOn n w (sector_part (frontend_of w))
   pub numbers : List ℕ
   pub jobs : AllComeAndGoOn n w.rings.under w.rings.back numbers
   pub front_apart : IfSome (sector_part (frontend_of w)) (λ p. NoneMoves w.rings.under w.rings.back p.frame numbers)
+  pub back_apart : IfSome (entry_part (backend_of w)) (λ p. NoneMoves w.rings.under w.rings.back (frame_under w.rings.under p) numbers)
+  pub ends_apart : IfSome (entry_part (backend_of w)) (λ p. IfSome (sector_part (frontend_of w)) (λ q. q.frame ≢ frame_under w.rings.under p))
 
 -- each of these jobs asks for the words of the sector that it is in
 abbrev pub AskForTheirs : View → List Work → Type 0

@@ -1,4 +1,4 @@
--- Those that move the words of a sector, one in each round: the front and the jobs. What each is answered to so many words, and which of them it writes.
+-- Those that move the words of a sector, one in each round: the front and the jobs; and the back, which copies those of an entry. What each is answered to so many words, and which of them it writes.
 use Rattle.std.specs.Prelude.{◌≡◌, ◌≢◌, ℕ, ◌+◌, ◌<◌, ◌≤◌, Bool, true, false, List, [], ◌∷◌, length, take, replicate, Option, Some, None, IfSome}
 use Rattle.std.specs.List.{AllByRecursion}
 use Rattle.blk_base.specs.declared.ask.FrontAnswer.{FrontAnswer}
@@ -15,10 +15,13 @@ use Rattle.back_jobs.specs.declared.part.SectorPart.{SectorPart as JobPart}
 use Rattle.back_jobs.specs.Work.{Work}
 use Rattle.back_jobs.specs.Part.{part_at, values_at, words_read, words_written, steps_of}
 use Rattle.blk_back.specs.View as back_ring
+use Rattle.blk_back.specs.Keeping.{KeepsNone}
 use Rattle.blk_back.specs.Step.{job_ask_of, next_job_of}
 use Rattle.blk_back.specs.Part.{job_values}
 use Rattle.vbd_front.specs.View.{IsUnkept}
 use Rattle.vbd_front.specs.Ask.{is_waiting}
+use Rattle.vbd_back.specs.Ask.{is_waiting as is_back_waiting}
+use Rattle.vbd_back.specs.View as back
 use Rattle.vbd_model.specs.World.{World, frontend_of}
 
 -- the front is answered what memory holds of the words that it reads, or that they are written
@@ -72,6 +75,16 @@ job_writes h (Some p) values n pages = job_writes_to h p p.writes values n pages
 abbrev pub jobs_write : Hypervisor → (n : ℕ) → List Work → List ℕ → List ℕ
 jobs_write h n [] pages = pages
 jobs_write h n (t ∷ works) pages = jobs_write h n works (job_writes h (part_of t) (values_at t.stage t.words) n pages)
+
+-- the back is answered what memory holds of the entry's words, of which it writes none
+abbrev pub back_answers : Hypervisor → Option JobPart → (n : ℕ) → List BackAnswer
+back_answers h None n = []
+back_answers h (Some p) n = words_read (words_of h.pages (frame_under h p) p.word n)
+
+-- the back is in the middle of an entry's words with more than n left, and keeps no mappings; or it waits, and neither an event nor a watch is pending there
+abbrev pub BackGoesOn : ℕ → back.View → Hypervisor → Option JobPart → Type 0
+BackGoesOn n v h (Some p) = (n < p.count) × (p.word + p.count ≤ 1024) × KeepsNone v.ring
+BackGoesOn n v h None = (is_back_waiting v ≡ true) × (has_to_take h end.Back ≡ false)
 
 -- the front is in the middle of a sector's words with more than n left, and keeps no grants; or it waits, and neither an event nor a watch is pending there
 abbrev pub FrontGoesOn : ℕ → World → Option FrontPart → Type 0

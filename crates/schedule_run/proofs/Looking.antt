@@ -18,14 +18,21 @@ use Rattle.vbd_front.specs.View as front
 use Rattle.vbd_front.specs.View.{IsUnkept}
 use Rattle.vbd_front.specs.Ask as front_asks
 use Rattle.vbd_front.specs.Part.{sector_part}
+use Rattle.blk_back.specs.Keeping.{KeepsNone}
+use Rattle.vbd_back.specs.View.{View as Backend}
+use Rattle.vbd_back.specs.Part.{entry_part}
 use Rattle.vbd_back.specs.Ask.{is_waiting}
 use Rattle.vbd_model.specs.World.{World, frontend_of, backend_of}
 use Rattle.vbd_model.specs.Fit.{IsFit}
-use Rattle.round_laws.specs.Movers.{frame_under, FrontGoesOn, AreVisited, CallsSay}
+use Rattle.round_laws.specs.Movers.{frame_under, FrontGoesOn, BackGoesOn, AreVisited, CallsSay}
 use Rattle.round_laws.specs.Calls.{NoneMoves, MoveApart, MayMoveAtOnce}
 use Rattle.round_laws.proofs.Called.{may_move}
 use Rattle.schedule_run.specs.Marks.{is_marked}
-use Rattle.schedule_run.specs.Looking.{FrontStays, FrontSays, JobSays, NoneMarked, JobsSay}
+use Rattle.schedule_run.specs.Looking.{FrontStays, FrontSays, BackSays, JobSays, NoneMarked, JobsSay}
+
+or_false : (a b : Bool) → (a || b) ≡ false → b ≡ false
+or_false true b e = absurd (true≢false e)
+or_false false b e = e
 
 -- the front says this of itself
 pub front_says : (n : ℕ) (f : front.View) (h : Hypervisor) (before marks : List ℕ) (p : FrontPart) → Some p ≡ sector_part f → n < p.count → IsWithin p → IsUnkept f.ring
@@ -42,6 +49,27 @@ front_idles n f h marks is waits untaken = record {
   marked = subst (λ (o : Option FrontPart). IfSome o (λ q. is_marked marks q.frame ≡ true)) is tt;
 }
 
+-- so does the back
+pub back_says : (n : ℕ) (h : Hypervisor) (b : Backend) (before after : List ℕ) (p : JobPart) → Some p ≡ entry_part b → b.ring.halted ≡ None → n < p.count → IsWithinPage p → KeepsNone b.ring → is_marked before (frame_under h p) ≡ false
+    → ((frame : ℕ) → is_marked after frame ≡ (frame == frame_under h p || is_marked before frame)) → BackSays n h b before after
+back_says n h b before after p is runs few within none fresh marked = record {
+  runs = runs;
+  goes = subst (BackGoesOn n b h) is (few, within.2, none);
+  fresh = subst (λ (o : Option JobPart). IfSome o (λ q. is_marked before (frame_under h q) ≡ false)) is fresh;
+  marked = subst (λ (o : Option JobPart). IfSome o (λ q. is_marked after (frame_under h q) ≡ true)) is
+      (marked (frame_under h p) ∙ ap (λ (c : Bool). c || is_marked before (frame_under h p)) (eq-eqb (frame_under h p) (frame_under h p) refl));
+  kept = λ frame unmarked. or_false (frame == frame_under h p) (is_marked before frame) (sym (marked frame) ∙ unmarked);
+}
+
+pub back_idles : (n : ℕ) (h : Hypervisor) (b : Backend) (marks : List ℕ) → None ≡ entry_part b → b.ring.halted ≡ None → is_waiting b ≡ true → has_to_take h end.Back ≡ false → BackSays n h b marks marks
+back_idles n h b marks is runs waits untaken = record {
+  runs = runs;
+  goes = subst (BackGoesOn n b h) is (waits, untaken);
+  fresh = subst (λ (o : Option JobPart). IfSome o (λ q. is_marked marks (frame_under h q) ≡ false)) is tt;
+  marked = subst (λ (o : Option JobPart). IfSome o (λ q. is_marked marks (frame_under h q) ≡ true)) is tt;
+  kept = λ frame unmarked. unmarked;
+}
+
 -- and a job
 pub job_says : (n : ℕ) (h : Hypervisor) (v : View) (k : ℕ) (before after values : List ℕ) (p : JobPart) → Some p ≡ job_part v k → n < p.count → IsWithinPage p
     → values ≡ job_values v k → IfSome (job_part v k) (λ q. q.writes ≡ true → length values ≡ q.count) → is_marked before (frame_under h p) ≡ false
@@ -54,10 +82,6 @@ job_says n h v k before after values p is few within there counted fresh marked 
           (marked (frame_under h p) ∙ ap (λ (b : Bool). b || is_marked before (frame_under h p)) (eq-eqb (frame_under h p) (frame_under h p) refl));
       kept = λ frame unmarked. or_false (frame == frame_under h p) (is_marked before frame) (sym (marked frame) ∙ unmarked);
     }
-  where
-    or_false : (a b : Bool) → (a || b) ≡ false → b ≡ false
-    or_false true b e = absurd (true≢false e)
-    or_false false b e = e
 
 pub job_idles : (n : ℕ) (h : Hypervisor) (v : View) (k : ℕ) (marks : List ℕ) → None ≡ job_part v k → Wait ≡ job_ask_of v k → JobSays n h v k marks marks
 job_idles n h v k marks is waits = record {
@@ -140,15 +164,27 @@ front_apart : (w : World) (marks numbers : List ℕ) (o : Option FrontPart) → 
 front_apart w marks numbers None marked unmarked = tt
 front_apart w marks numbers (Some p) marked unmarked = marked_apart w.rings.under w.rings.back marks p.frame numbers marked unmarked
 
-pub may_move_so : (n : ℕ) (w : World) (marks : List ℕ) → IsFit w → w.rings.back.halted ≡ None → is_waiting (backend_of w) ≡ true → has_to_take w.rings.under end.Back ≡ false
-    → FrontSays n (frontend_of w) w.rings.under marks → JobsSay n w.rings.under w.rings.back marks → MayMoveAtOnce n w
-may_move_so n w marks fit runs waits untaken front jobs =
+-- the ring's frame is none of a job, nor the front's
+back_apart : (w : World) (marks numbers : List ℕ) (o : Option JobPart) → IfSome o (λ p. is_marked marks (frame_under w.rings.under p) ≡ true) → NoneMarked marks w.rings.under w.rings.back numbers
+    → IfSome o (λ p. NoneMoves w.rings.under w.rings.back (frame_under w.rings.under p) numbers)
+back_apart w marks numbers None marked unmarked = tt
+back_apart w marks numbers (Some p) marked unmarked = marked_apart w.rings.under w.rings.back marks (frame_under w.rings.under p) numbers marked unmarked
+
+ends_apart : (h : Hypervisor) (marks : List ℕ) (e : Option JobPart) (o : Option FrontPart) → IfSome o (λ q. is_marked marks q.frame ≡ true) → IfSome e (λ p. is_marked marks (frame_under h p) ≡ false)
+    → IfSome e (λ p. IfSome o (λ q. q.frame ≢ frame_under h p))
+ends_apart h marks None o marked fresh = tt
+ends_apart h marks (Some p) None marked fresh = tt
+ends_apart h marks (Some p) (Some q) marked fresh = λ same. true≢false (sym marked ∙ (ap (is_marked marks) same ∙ fresh))
+
+pub may_move_so : (n : ℕ) (w : World) (first marks : List ℕ) → IsFit w → FrontSays n (frontend_of w) w.rings.under first → BackSays n w.rings.under (backend_of w) first marks → JobsSay n w.rings.under w.rings.back marks → MayMoveAtOnce n w
+may_move_so n w first marks fit front back jobs =
     may_move n w fit.safe.front_told fit.safe.back_told (record {
-      unhalted = runs;
-      back = waits;
-      untaken = untaken;
+      unhalted = back.runs;
+      back = back.goes;
       front = front_so n w (sector_part (frontend_of w)) front.stays;
       numbers = jobs.numbers;
       jobs = jobs.come;
-      front_apart = front_apart w marks jobs.numbers (sector_part (frontend_of w)) front.marked jobs.unmarked;
+      front_apart = front_apart w first jobs.numbers (sector_part (frontend_of w)) front.marked (all_before w.rings.under w.rings.back first marks jobs.numbers back.kept jobs.unmarked);
+      back_apart = back_apart w marks jobs.numbers (entry_part (backend_of w)) back.marked jobs.unmarked;
+      ends_apart = ends_apart w.rings.under first (entry_part (backend_of w)) (sector_part (frontend_of w)) front.marked back.fresh;
     })

@@ -1,4 +1,4 @@
--- What a look at both ends says: whether the front, or a job, is in the middle of a sector's words, or waits. Each marks the frame whose words it moves.
+-- What a look at both ends says: whether the front, or a job, is in the middle of a sector's words, or the back of an entry's, or waits. Each marks the frame whose words it moves.
 use Rattle.std.specs.Prelude.{◌≡◌, ℕ, ◌+◌, ◌<◌, ◌≤◌, true, false, List, Option, Some, None, IfSome}
 use Rattle.std.specs.List.{AllByRecursion}
 use Rattle.blk_base.specs.declared.parts.End.TheVariants as end
@@ -10,7 +10,9 @@ use Rattle.blk_back.specs.Part.{job_part}
 use Rattle.vbd_front.specs.View.{View, IsUnkept}
 use Rattle.vbd_front.specs.Ask.{is_waiting}
 use Rattle.vbd_front.specs.Part.{sector_part}
-use Rattle.round_laws.specs.Movers.{frame_under, CallsSay}
+use Rattle.vbd_back.specs.View.{View as Backend}
+use Rattle.vbd_back.specs.Part.{entry_part}
+use Rattle.round_laws.specs.Movers.{frame_under, BackGoesOn, CallsSay}
 use Rattle.round_laws.specs.Calls.{AllComeAndGoOn}
 use Rattle.schedule_run.specs.Marks.{is_marked}
 
@@ -22,6 +24,14 @@ FrontStays n f h None = (is_waiting f ≡ true) × (has_to_take h end.Front ≡ 
 pub record FrontSays (n : ℕ) (f : View) (h : Hypervisor) (marks : List ℕ) : Type 0 where
   pub stays : FrontStays n f h (sector_part f)
   pub marked : IfSome (sector_part f) (λ p. is_marked marks p.frame ≡ true)
+
+-- so it is of the back and its ring's frame, which wasn't marked before; what was marked is
+pub record BackSays (n : ℕ) (h : Hypervisor) (b : Backend) (before after : List ℕ) : Type 0 where
+  pub runs : b.ring.halted ≡ None
+  pub goes : BackGoesOn n b h (entry_part b)
+  pub fresh : IfSome (entry_part b) (λ p. is_marked before (frame_under h p) ≡ false)
+  pub marked : IfSome (entry_part b) (λ p. is_marked after (frame_under h p) ≡ true)
+  pub kept : (frame : ℕ) → is_marked after frame ≡ false → is_marked before frame ≡ false
 
 -- so it is of a job, whose frame wasn't marked before and is now; what was marked is
 pub record JobSays (n : ℕ) (h : Hypervisor) (v : back_ring.View) (number : ℕ) (before after : List ℕ) : Type 0 where

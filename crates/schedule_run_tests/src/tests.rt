@@ -18,6 +18,7 @@ mod report;
 mod rings;
 mod sectors;
 mod stops;
+mod turns;
 
 use crate::expected::same;
 use blk_base::{Config, SectorCount, Submission};

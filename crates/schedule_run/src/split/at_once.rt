@@ -1,4 +1,4 @@
-// Rounds of nothing but words of sectors, many at once.
+// Rounds of nothing but words of sectors and of entries, many at once.
 ghost use Rattle.std.specs.Prelude.{◌≡◌, ◌<◌, ◌≤◌};
 ghost use Rattle.vbd_model.specs.Leads.{IsReadyFor, moment};
 ghost use Rattle.round_laws.specs.AtOnce.{moved};
@@ -6,19 +6,19 @@ ghost use Rattle.round_laws.specs.Calls.{MayMoveAtOnce};
 ghost use Rattle.schedule_run.specs.Going.{GoesRounds};
 
 use super::Split;
-use super::looking::{words_of_front, words_of_jobs};
-use super::words::{move_front, move_jobs};
-use blk_base::End;
+use super::looking::{words_of_back, words_of_front, words_of_jobs};
+use super::words::{move_back, move_front, move_jobs};
 use blk_io::SectorDisk;
 use schedule_text::{Detail, RecordStop, Recorder};
 
 impl Split {
-    // Some rounds, that many at most: where the recorder keeps no lines of moves, all at once that move
-    // nothing but words of sectors; else one.
+    // Some rounds, that many at most: where it is to look and the recorder keeps no lines of moves, all at
+    // once that move nothing but words of sectors and of an entry; else one.
     #[inline(always)]
     pub(super) fn some_rounds<D: SectorDisk, R: Recorder>(
         &mut self,
         most: u64,
+        looks: bool,
         disk: &mut D,
         recorder: &mut R,
     ) -> Result<u64, RecordStop>
@@ -28,32 +28,26 @@ impl Split {
             (moment self.old (D.seen disk.old) (R.seen recorder.old))
             (moment self.new (D.seen disk.new) (R.seen recorder.new)) }
     {
-        if let Detail::Lines = recorder.detail() {
-            let count = self.rounds_of_words(most);
-            if count > 0 {
-                self.move_words(count);
-                return Ok(u64::from(count));
+        if looks {
+            if let Detail::Lines = recorder.detail() {
+                let count = self.rounds_of_words(most);
+                if count > 0 {
+                    self.move_words(count);
+                    return Ok(u64::from(count));
+                }
             }
         }
         self.round(disk, recorder)?;
         Ok(1)
     }
 
-    // How many rounds, that many at most, move nothing but words of sectors, of which all but one are left
-    // at least: the front, each job and the back are in the middle of such words, or wait.
+    // How many rounds, that many at most, move nothing but words, none of them the last of a sector or of an
+    // entry: the front and each job are in the middle of a sector's words, or wait, and the back of an
+    // entry's, or waits. None elsewhere.
     fn rounds_of_words(&self, most: u64) -> u32
         ensures few { result ≤ most }
         ensures words { 0 < result → MayMoveAtOnce result self.now }
     {
-        if !self.back.waits() {
-            return 0;
-        }
-        if self.under.has_to_take(End::Back) {
-            return 0;
-        }
-        if self.back.halted().is_some() {
-            return 0;
-        }
         let mut marks = [0u64; 17];
         let most = if most < 4_294_967_295 {
             most as u32
@@ -64,14 +58,19 @@ impl Split {
         if count == 0 {
             return 0;
         }
+        let count = words_of_back(&self.back, &self.under, count, &mut marks);
+        if count == 0 {
+            return 0;
+        }
         words_of_jobs(&self.back, &self.under, count, &mut marks)
     }
 
-    // So many rounds of nothing but words of sectors.
+    // So many rounds of nothing but words of sectors and of an entry.
     fn move_words(&mut self, count: u32)
         requires { MayMoveAtOnce count self.old }
         ensures { self.new ≡ moved count self.old }
     {
+        move_back(&mut self.back, &self.under, count);
         move_jobs(&mut self.back, &mut self.under, count);
         move_front(&mut self.front, &mut self.under, count);
     }

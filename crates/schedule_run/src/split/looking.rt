@@ -2,7 +2,7 @@
 ghost use Rattle.std.specs.Prelude.{ℕ, ◌<◌, ◌≤◌, All};
 ghost use Rattle.grant_table.specs.Table.{IsLive};
 ghost use Rattle.blk_back.specs.Hands.{hands_of};
-ghost use Rattle.schedule_run.specs.Looking.{FrontSays, JobSays, JobsSay};
+ghost use Rattle.schedule_run.specs.Looking.{FrontSays, BackSays, JobSays, JobsSay};
 
 use super::marks::mark;
 use blk_base::{BackAsk, End};
@@ -31,6 +31,42 @@ pub(super) fn words_of_front(
                 return 0;
             }
             if under.has_to_take(End::Front) {
+                return 0;
+            }
+            most
+        }
+    }
+}
+
+/// So many words, that many at most, the back may copy and be in its entry still; where it waits and has
+/// nothing to take, as many as that. None where it does anything else, or the ring's frame is marked; it
+/// marks that.
+pub(super) fn words_of_back(
+    back: &Backend,
+    under: &Hypervisor,
+    most: u32,
+    marks: &mut [u64; 17],
+) -> u32
+    requires live { All (IsLive under.now.grants) (hands_of back.now.ring) }
+    ensures few { result ≤ most }
+    ensures back { (n : ℕ) → 0 < n → n ≤ result → BackSays n under.now back.now marks.old marks.new }
+{
+    if back.halted().is_some() {
+        return 0;
+    }
+    match back.entry_part() {
+        Some(part) => {
+            let frame = under.frame_of(part.mapping);
+            if mark(marks, frame) {
+                return 0;
+            }
+            all_but_one(part.count, most)
+        }
+        None => {
+            if !back.waits() {
+                return 0;
+            }
+            if under.has_to_take(End::Back) {
                 return 0;
             }
             most
@@ -80,12 +116,14 @@ fn words_of_job(
     ensures few { result ≤ most }
     ensures job { (n : ℕ) → 0 < n → n ≤ result → JobSays n under.now back.now.ring number marks.old marks.new }
 {
-    // What is to be written is there, as this call says.
-    let _values = back.part_values(number);
     match back.sector_part(number) {
         Some(part) => {
             if mark(marks, under.frame_of(part.mapping)) {
                 return 0;
+            }
+            if part.writes {
+                // What is to be written is there, as this call says.
+                let _values = back.part_values(number);
             }
             all_but_one(part.count, most)
         }

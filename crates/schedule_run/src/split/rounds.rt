@@ -117,8 +117,12 @@ impl Split {
             (moment self.new (D.seen disk.new) (R.seen recorder.new)) }
     {
         let mut left = u64::from(count);
+        let mut looks = true;
         while left > 0 {
-            left -= self.some_rounds(left, disk, recorder)?;
+            let gone = self.some_rounds(left, looks, disk, recorder)?;
+            // After many at once the next one moves a last word.
+            looks = gone == 1;
+            left -= gone;
         }
         Ok(())
     }
@@ -136,11 +140,15 @@ impl Split {
             (moment self.new (D.seen disk.new) (R.seen recorder.new)) }
     {
         let mut left = bound;
+        let mut looks = true;
         while left > 0 {
             if self.is_quiet() {
                 return Ok(());
             }
-            left -= self.some_rounds(left, disk, recorder)?;
+            let gone = self.some_rounds(left, looks, disk, recorder)?;
+            // After many at once the next one moves a last word.
+            looks = gone == 1;
+            left -= gone;
         }
         Ok(())
     }

@@ -6,8 +6,8 @@ ghost use Rattle.back_jobs.specs.Part.{IsWithinPage};
 ghost use Rattle.blk_back.specs.Hands.{hands_of};
 ghost use Rattle.vbd_front.specs.Part.{sector_part, steps_of};
 ghost use Rattle.vbd_back.specs.View.{both};
-ghost use Rattle.vbd_back.specs.Part.{job_part, job_values, job_steps};
-ghost use Rattle.round_laws.specs.Movers.{front_answers, front_writes, job_answers, job_moved, job_writes, jobs_write};
+ghost use Rattle.vbd_back.specs.Part.{job_part, job_values, job_steps, entry_part, steps_of as back_steps};
+ghost use Rattle.round_laws.specs.Movers.{front_answers, front_writes, back_answers, job_answers, job_moved, job_writes, jobs_write};
 ghost use Rattle.round_laws.specs.AtOnce.{with_jobs};
 ghost use Rattle.round_laws.specs.Calls.{JobsMayMove};
 
@@ -40,6 +40,22 @@ pub(super) fn move_front(front: &mut Frontend, under: &mut Hypervisor, count: u3
             front.tell_read(&words[..count as usize]);
         }
     }
+}
+
+/// The back copies so many words, where it is in the middle of an entry's.
+pub(super) fn move_back(back: &mut Backend, under: &Hypervisor, count: u32)
+    requires told { back.old.ring.told ≡ None }
+    requires few { IfSome (entry_part back.old) (λ part. count ≤ part.count) }
+    requires live { All (IsLive under.now.grants) (hands_of back.old.ring) }
+    ensures back { back.new ≡ back_steps back.old (back_answers under.now (entry_part back.old) count) }
+    ensures hands { hands_of back.new.ring ≡ hands_of back.old.ring }
+{
+    let Some(part) = back.entry_part() else {
+        return;
+    };
+    let mut words = [0u32; 128];
+    under.read_words(part.mapping, part.word, &mut words[..count as usize]);
+    back.tell_entry(&words[..count as usize]);
 }
 
 /// Each job that is in the middle of a sector's words moves so many, by number.
