@@ -1,4 +1,5 @@
 // Whole reports by hand, and what the checker finds.
+use crate::expected::{holds, holds_of, same_of};
 use crate::given::bytes_of;
 use blk_io::{FailsAt, MemorySource};
 use checked_rules::Rule;
@@ -64,7 +65,7 @@ fn find(rt: &impl Abort, alloc: Global, cases: &[Case]) {
     for case in cases {
         let mut source = MemorySource::new(bytes_of(rt, alloc, case.report, 1));
         let found = check(alloc, u64::from(case.limit), &mut source);
-        assert!(rt; found == case.found, "{}", case.name);
+        holds_of(rt, case.name, found == case.found);
     }
 }
 
@@ -79,7 +80,7 @@ fn find_failed(rt: &impl Abort, alloc: Global, report: &[u8]) {
     let listed = vec![in alloc; 1].expect(rt, "memory");
     let mut source = FailsAt::new(inside, listed);
     let found = check(alloc, 4096, &mut source);
-    assert!(rt; found == Err(CheckStop::Source));
+    holds(rt, found == Err(CheckStop::Source));
 }
 
 #[test]
@@ -98,7 +99,7 @@ fn write(rt: &impl Abort, findings: &[(Finding, &str)]) {
     let mut text = LineText::new();
     for (finding, wanted) in findings {
         write_finding(*finding, &mut text);
-        assert_eq!(rt; text.as_str(), *wanted);
+        same_of(rt, "a finding", text.as_str(), *wanted);
     }
 }
 

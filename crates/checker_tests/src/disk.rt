@@ -1,4 +1,5 @@
 // Reports by hand, and whether each line can stand on the plain disk.
+use crate::expected::{holds_at, holds_in};
 use crate::given::line_of;
 use blk_base::{Refusal, Submission};
 use plain_disk::{PlainDisk, Sight, Stand};
@@ -42,10 +43,10 @@ fn stand(rt: &impl Abort, alloc: Global, cases: &[Case]) {
     for case in cases {
         let mut disk = disk_of(rt, alloc, case.zeros);
         for marked in case.report.lines() {
-            assert!(rt; is_so(rt, &mut disk, marked), "{}: {marked}", case.name);
+            holds_in(rt, (case.name, marked), is_so(rt, &mut disk, marked));
         }
         for (sector, word) in case.sectors {
-            assert!(rt; has_words(&disk, *sector, *word), "{}: {sector}", case.name);
+            holds_at(rt, (case.name, *sector), has_words(&disk, *sector, *word));
         }
     }
 }
@@ -164,6 +165,59 @@ reply 1 ok
 #[test]
 fn the_lines_of_a_report_stand_where_the_disk_takes_their_steps(rt: HostRuntime) {
     stand(&rt, rt.alloc(), CASES);
+}
+
+// Lines that stand on a disk of one sector of zeros, the words that a loss of its cache may leave in
+// it, and words that it can't.
+type Losing = (&'static str, &'static [u32], &'static [u32]);
+
+fn may_leave(disk: &PlainDisk, word: u32) -> bool {
+    disk.may_leave(0, &[word; 128])
+}
+
+fn lose(rt: &impl Abort, alloc: Global, cases: &[Losing]) {
+    for (report, left, gone) in cases {
+        let mut disk = disk_of(rt, alloc, 1);
+        for text in report.lines() {
+            assert!(rt; is_so(rt, &mut disk, text), "{text}");
+        }
+        for word in *left {
+            assert!(rt; may_leave(&disk, *word), "{word} after {report}");
+        }
+        for word in *gone {
+            assert!(rt; !may_leave(&disk, *word), "{word} after {report}");
+        }
+    }
+}
+
+const WRITTEN: &str = "submit 1 write 0 1 00000007
+effect 1 0";
+
+const FLUSHED: &str = "submit 1 write 0 1 00000007
+effect 1 0
+submit 2 flush
+flushed 2";
+
+const WRITTEN_SINCE: &str = "submit 1 write 0 1 00000007
+effect 1 0
+submit 2 flush
+flushed 2
+submit 3 write 0 1 00000008
+effect 3 0";
+
+const FAILED: &str = "submit 1 write 0 1 00000007
+fault 1 0";
+
+const LOSING: &[Losing] = &[
+    (WRITTEN, &[0, 7], &[8]),
+    (FLUSHED, &[7], &[0, 8]),
+    (WRITTEN_SINCE, &[7, 8], &[0]),
+    (FAILED, &[0, 7, 8], &[]),
+];
+
+#[test]
+fn a_flush_makes_stable_what_was_written(rt: HostRuntime) {
+    lose(&rt, rt.alloc(), LOSING);
 }
 
 // Lines that were seen, how often a request was submitted, and how it is then refused.

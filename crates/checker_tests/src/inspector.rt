@@ -1,5 +1,5 @@
 // Rings in memory, and what is shown of them.
-use crate::expected::holds;
+use crate::expected::{holds, same_of};
 use blk_base::{Abi, Idx};
 use blk_io::{FailsAt, MemorySink, MemorySource};
 use blk_layout::{DirectOp, Segment, WrittenRequest, request_words};
@@ -43,8 +43,8 @@ fn show(rt: &impl Abort, alloc: Global, bytes: Vec<u8>, case: &Case) {
     let sink_fails = Vec::from_slice(alloc, case.sink_fails).expect(rt, "memory");
     let mut sink = FailsAt::new(room, sink_fails);
     let shown = inspect(alloc, &mut source, case.abi, 0, &mut sink);
-    assert_eq!(rt; shown, case.shown, "{}", case.name);
-    assert_eq!(rt; sink.inside.bytes(), case.text.as_bytes(), "{}", case.name);
+    same_of(rt, case.name, shown, case.shown);
+    same_of(rt, case.name, sink.inside.bytes(), case.text.as_bytes());
 }
 
 // One write of sector 0 through one segment.
@@ -195,7 +195,7 @@ fn show_wrapped(rt: &impl Abort, alloc: Global, case: &Case) {
     for id in 7..10 {
         push(rt, bytes.as_mut_slice(), shape, &mut front, id);
     }
-    assert_eq!(rt; Idx(4294967294).dist(Idx(front.prod())), 3);
+    same_of(rt, case.name, Idx(4294967294).dist(Idx(front.prod())), 3);
     put(bytes.as_mut_slice(), 0, front.prod());
     show(rt, alloc, bytes, case);
 }

@@ -1,4 +1,5 @@
 // Texts by hand, and the lines that come of them.
+use crate::expected::{holds_in, holds_of};
 use crate::given::{bytes_of, line_of};
 use blk_io::{FailsAt, MemorySource, Source};
 use report_lines::{ReadStop, ReportLines};
@@ -113,10 +114,14 @@ fn comes<S: Source>(rt: &impl Abort, alloc: Global, case: &Case, source: &mut S)
     let mut reader = ReportLines::new(alloc, case.limit);
     for _ in 0..case.times {
         for text in case.lines {
-            assert!(rt; line_comes(rt, &mut reader, source, text), "{}", case.name);
+            holds_in(
+                rt,
+                (case.name, text),
+                line_comes(rt, &mut reader, source, text),
+            );
         }
     }
-    assert!(rt; end_comes(&mut reader, source, case.stop), "{}", case.name);
+    holds_of(rt, case.name, end_comes(&mut reader, source, case.stop));
 }
 
 fn all_come(rt: &impl Abort, alloc: Global, cases: &[Case]) {

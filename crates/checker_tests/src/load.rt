@@ -1,4 +1,5 @@
 // Generated schedules, their events and their summaries.
+use crate::expected::{holds_of, same_of};
 use crate::given::line_of;
 use bench_load::{BenchLoad, BenchSchedule, write_summary};
 use blk_io::Source;
@@ -163,20 +164,27 @@ fn has_ended(events: &mut BenchSchedule) -> bool {
     events.next_event().is_none()
 }
 
+// Goes on only where this is so; else it stops the test, and says of which seed and count.
+fn holds_for(rt: &impl Abort, (seed, count): (u64, u64), condition: bool) {
+    assert!(rt; condition, "{seed} {count}");
+}
+
 fn speak(rt: &impl Abort, cases: &[Events]) {
     let mut text = LineText::new();
     for (seed, count, number, first) in cases {
         let mut events = BenchSchedule::new(*seed, *count);
         let mut first = first.lines();
         for _ in 0..*number {
-            assert!(rt;
+            holds_for(
+                rt,
+                (*seed, *count),
                 is_next(&mut events, &mut text, first.next()),
-                "{seed} {count}"
             );
         }
-        assert!(rt;
+        holds_for(
+            rt,
+            (*seed, *count),
             has_ended(&mut events) && has_ended(&mut events),
-            "{seed} {count}"
         );
     }
 }
@@ -228,7 +236,7 @@ fn tallied(rt: &impl Abort, lines: &str) -> Tally {
 
 fn tally(rt: &impl Abort, cases: &[(&str, Tally)]) {
     for (lines, wanted) in cases {
-        assert!(rt; tallied(rt, lines) == *wanted);
+        holds_of(rt, lines, tallied(rt, lines) == *wanted);
     }
 }
 
@@ -240,7 +248,7 @@ fn lines_are_tallied_by_kind(rt: HostRuntime) {
 fn sum_up(rt: &impl Abort, lines: &str, wanted: &str) {
     let mut text = LineText::new();
     write_summary(&tallied(rt, lines), &mut text);
-    assert_eq!(rt; text.as_str(), wanted);
+    same_of(rt, lines, text.as_str(), wanted);
 }
 
 #[test]

@@ -1,5 +1,6 @@
 // Lines by hand, and what is kept of memory and mappings after them. The entry of reference 8 is words
 // 16 and 17 of frame 0; the frame that it grants is 700.
+use crate::expected::{holds_at, same_of};
 use crate::given::line_of;
 use blk_base::Mode;
 use memory_check::Memory;
@@ -90,9 +91,13 @@ fn answer(rt: &impl Abort, alloc: Global, begin: &str, cases: &[Case]) {
     for case in cases {
         let mut memory = memory_after(rt, alloc, begin);
         let count = count_allowed(rt, &mut memory, case);
-        assert_eq!(rt; count, case.allowed, "{}", case.name);
+        same_of(rt, case.name, count, case.allowed);
         for (place, asked) in case.asked.iter().enumerate() {
-            assert!(rt; is_answer(rt, &memory, *asked), "{}: {place}", case.name);
+            holds_at(
+                rt,
+                (case.name, place as u64),
+                is_answer(rt, &memory, *asked),
+            );
         }
     }
 }

@@ -1,4 +1,5 @@
 // Lines by hand, and what the rules on requests allow after them.
+use crate::expected::holds_in;
 use crate::given::line_of;
 use request_check::RequestCheck;
 use schedule_text::Line;
@@ -40,7 +41,7 @@ fn allow(rt: &impl Abort, alloc: Global, cases: &[Case]) {
     for (before, asked, text, allowed) in cases {
         let check = after(rt, alloc, before);
         let found = is_allowed(&check, *asked, &line_of(rt, text));
-        assert_eq!(rt; found, *allowed, "{text} after {before}");
+        holds_in(rt, (before, text), found == *allowed);
     }
 }
 

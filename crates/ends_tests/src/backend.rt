@@ -59,36 +59,35 @@ const CONNECTS: &[Step<'static>] = &[
 
 #[test]
 fn it_offers_and_waits_and_connects_as_the_front_says(rt: HostRuntime) {
-    plays(
-        &rt,
-        rt.alloc(),
-        &[BEGINS, READS, CONNECTS, &[Step::Asks(Ask::Read(RING, 0))]],
-    );
+    const PARTS: &[&[Step<'static>]] = &[
+        BEGINS,
+        READS,
+        CONNECTS,
+        &[Step::Asks(Ask::Read(RING, 0))],
+    ];
+    plays(&rt, rt.alloc(), PARTS);
 }
 
 #[test]
 fn both_pages_of_a_ring_are_mapped_before_its_port_is_bound(rt: HostRuntime) {
-    plays(
-        &rt,
-        rt.alloc(),
+    const PARTS: &[&[Step<'static>]] = &[
+        BEGINS,
         &[
-            BEGINS,
-            &[
-                // what a 32-bit front with a ring of two pages says
-                Step::Watched,
-                Step::Gets(FRONT_STATE, "3"),
-                Step::Gets("/local/domain/1/device/vbd/51712/ring-page-order", "1"),
-                Step::Gets("/local/domain/1/device/vbd/51712/ring-ref0", "8"),
-                Step::Gets("/local/domain/1/device/vbd/51712/ring-ref1", "9"),
-                Step::Gets("/local/domain/1/device/vbd/51712/event-channel", "1"),
-                Step::Gets("/local/domain/1/device/vbd/51712/protocol", "x86_32-abi"),
-                Step::Gets("/local/domain/1/device/vbd/51712/feature-persistent", "0"),
-                Step::Maps(RING),
-                Step::Maps(SECOND),
-                Step::Does(Ask::Bind(1)),
-            ],
+            // what a 32-bit front with a ring of two pages says
+            Step::Watched,
+            Step::Gets(FRONT_STATE, "3"),
+            Step::Gets("/local/domain/1/device/vbd/51712/ring-page-order", "1"),
+            Step::Gets("/local/domain/1/device/vbd/51712/ring-ref0", "8"),
+            Step::Gets("/local/domain/1/device/vbd/51712/ring-ref1", "9"),
+            Step::Gets("/local/domain/1/device/vbd/51712/event-channel", "1"),
+            Step::Gets("/local/domain/1/device/vbd/51712/protocol", "x86_32-abi"),
+            Step::Gets("/local/domain/1/device/vbd/51712/feature-persistent", "0"),
+            Step::Maps(RING),
+            Step::Maps(SECOND),
+            Step::Does(Ask::Bind(1)),
         ],
-    );
+    ];
+    plays(&rt, rt.alloc(), PARTS);
 }
 
 // It finds no request, and sleeps.
@@ -102,21 +101,18 @@ const SLEEPS: &[Step<'static>] = &[
 
 #[test]
 fn a_watch_is_looked_at_and_leaves_it_asleep(rt: HostRuntime) {
-    plays(
-        &rt,
-        rt.alloc(),
+    const PARTS: &[&[Step<'static>]] = &[
+        BEGINS,
+        READS,
+        CONNECTS,
+        SLEEPS,
         &[
-            BEGINS,
-            READS,
-            CONNECTS,
-            SLEEPS,
-            &[
-                Step::Watched,
-                Step::Gets(FRONT_STATE, "4"),
-                Step::Idle(true),
-            ],
+            Step::Watched,
+            Step::Gets(FRONT_STATE, "4"),
+            Step::Idle(true),
         ],
-    );
+    ];
+    plays(&rt, rt.alloc(), PARTS);
 }
 
 // It says that it closes, and is closed.
@@ -124,21 +120,18 @@ const SAYS_CLOSED: &[Step<'static>] = &[Step::Sets(STATE, "5"), Step::Sets(STATE
 
 #[test]
 fn a_ring_that_cant_be_mapped_halts_it(rt: HostRuntime) {
-    plays(
-        &rt,
-        rt.alloc(),
+    const PARTS: &[&[Step<'static>]] = &[
+        BEGINS,
+        READS,
         &[
-            BEGINS,
-            READS,
-            &[
-                Step::Halted(None),
-                Step::Told(Answer::MapRefused(-1)),
-                Step::Halted(Some(Why::MapRefused(8, -1))),
-            ],
-            SAYS_CLOSED,
-            &[Step::Watched, Step::Idle(true)],
+            Step::Halted(None),
+            Step::Told(Answer::MapRefused(-1)),
+            Step::Halted(Some(Why::MapRefused(8, -1))),
         ],
-    );
+        SAYS_CLOSED,
+        &[Step::Watched, Step::Idle(true)],
+    ];
+    plays(&rt, rt.alloc(), PARTS);
 }
 
 // It unmaps its ring and closes its port.
@@ -146,114 +139,102 @@ const GIVES_UP: &[Step<'static>] = &[Step::Does(Ask::Unmap(RING)), Step::Does(As
 
 #[test]
 fn a_front_that_is_gone_halts_it(rt: HostRuntime) {
-    plays(
-        &rt,
-        rt.alloc(),
+    const PARTS: &[&[Step<'static>]] = &[
+        BEGINS,
+        READS,
+        CONNECTS,
+        SLEEPS,
         &[
-            BEGINS,
-            READS,
-            CONNECTS,
-            SLEEPS,
-            &[
-                Step::Watched,
-                Step::Gets(FRONT_STATE, "6"),
-                Step::Halted(Some(Why::Gone(6))),
-            ],
-            GIVES_UP,
-            SAYS_CLOSED,
-            &[Step::Idle(true)],
+            Step::Watched,
+            Step::Gets(FRONT_STATE, "6"),
+            Step::Halted(Some(Why::Gone(6))),
         ],
-    );
+        GIVES_UP,
+        SAYS_CLOSED,
+        &[Step::Idle(true)],
+    ];
+    plays(&rt, rt.alloc(), PARTS);
 }
 
 #[test]
 fn an_overrun_halts_the_negotiation(rt: HostRuntime) {
-    plays(
-        &rt,
-        rt.alloc(),
+    const PARTS: &[&[Step<'static>]] = &[
+        BEGINS,
+        READS,
+        CONNECTS,
         &[
-            BEGINS,
-            READS,
-            CONNECTS,
-            &[
-                Step::Told(Answer::Word(33)),
-                Step::Halted(Some(Why::Overrun(33, 0))),
-            ],
-            GIVES_UP,
-            SAYS_CLOSED,
+            Step::Told(Answer::Word(33)),
+            Step::Halted(Some(Why::Overrun(33, 0))),
         ],
-    );
+        GIVES_UP,
+        SAYS_CLOSED,
+    ];
+    plays(&rt, rt.alloc(), PARTS);
 }
 
 #[test]
 fn a_push_is_ended_before_it_says_that_it_closes(rt: HostRuntime) {
-    plays(
-        &rt,
-        rt.alloc(),
+    const PARTS: &[&[Step<'static>]] = &[
+        BEGINS,
+        READS,
+        CONNECTS,
         &[
-            BEGINS,
-            READS,
-            CONNECTS,
-            &[
-                // it fetches one entry, of zeros, and begins to reply to it
-                Step::Told(Answer::Word(1)),
-                Step::ToldEach(Answer::Word(0), 28),
-                Step::Told(Answer::Done),
-                Step::Closes,
-                Step::ToldEach(Answer::Done, 4),
-                Step::Told(Answer::Word(9)),
-                Step::Sets(STATE, "5"),
-                Step::Told(Answer::Word(1)),
-                Step::ToldEach(Answer::Done, 2),
-                Step::Told(Answer::Word(1)),
-                Step::Watched,
-                Step::Gets(FRONT_STATE, "5"),
-                Step::Halted(Some(Why::Unplugged(5))),
-            ],
-            GIVES_UP,
-            &[Step::Sets(STATE, "6")],
+            // it fetches one entry, of zeros, and begins to reply to it
+            Step::Told(Answer::Word(1)),
+            Step::ToldEach(Answer::Word(0), 28),
+            Step::Told(Answer::Done),
+            Step::Closes,
+            Step::ToldEach(Answer::Done, 4),
+            Step::Told(Answer::Word(9)),
+            Step::Sets(STATE, "5"),
+            Step::Told(Answer::Word(1)),
+            Step::ToldEach(Answer::Done, 2),
+            Step::Told(Answer::Word(1)),
+            Step::Watched,
+            Step::Gets(FRONT_STATE, "5"),
+            Step::Halted(Some(Why::Unplugged(5))),
         ],
-    );
+        GIVES_UP,
+        &[Step::Sets(STATE, "6")],
+    ];
+    plays(&rt, rt.alloc(), PARTS);
 }
 
 #[test]
 fn an_entry_is_told_at_once_until_the_negotiation_asks_for_something(rt: HostRuntime) {
-    plays(
-        &rt,
-        rt.alloc(),
+    const PARTS: &[&[Step<'static>]] = &[
+        BEGINS,
+        READS,
+        CONNECTS,
         &[
-            BEGINS,
-            READS,
-            CONNECTS,
-            &[
-                Step::Told(Answer::Word(2)),
-                Step::HasNoPart,
-                Step::Told(Answer::Word(0)),
-                Step::HasPart(17, 27),
-                Step::CopiesAtOnce(&[0; 7]),
-                Step::HasPart(24, 20),
-                Step::CopiesAtOnce(&[0; 20]),
-                Step::HasNoPart,
-                Step::Holds(1),
-                // it replies to a read of no segments with an error, and fetches the next entry
-                Step::Does(Ask::Write(RING, 16, 0)),
-                Step::Holds(0),
-                Step::ToldEach(Answer::Done, 4),
-                Step::Told(Answer::Word(9)),
-                Step::Asks(Ask::Read(RING, 44)),
-                Step::Told(Answer::Word(0)),
-                Step::HasPart(45, 27),
-                Step::CopiesAtOnce(&[0; 7]),
-                // it says that it closes once it has copied the entry
-                Step::Closes,
-                Step::HasNoPart,
-                Step::Asks(Ask::Read(RING, 52)),
-                Step::ToldEach(Answer::Word(0), 20),
-                Step::Holds(1),
-                Step::Sets(STATE, "5"),
-            ],
+            Step::Told(Answer::Word(2)),
+            Step::HasNoPart,
+            Step::Told(Answer::Word(0)),
+            Step::HasPart(17, 27),
+            Step::CopiesAtOnce(&[0; 7]),
+            Step::HasPart(24, 20),
+            Step::CopiesAtOnce(&[0; 20]),
+            Step::HasNoPart,
+            Step::Holds(1),
+            // it replies to a read of no segments with an error, and fetches the next entry
+            Step::Does(Ask::Write(RING, 16, 0)),
+            Step::Holds(0),
+            Step::ToldEach(Answer::Done, 4),
+            Step::Told(Answer::Word(9)),
+            Step::Asks(Ask::Read(RING, 44)),
+            Step::Told(Answer::Word(0)),
+            Step::HasPart(45, 27),
+            Step::CopiesAtOnce(&[0; 7]),
+            // it says that it closes once it has copied the entry
+            Step::Closes,
+            Step::HasNoPart,
+            Step::Asks(Ask::Read(RING, 52)),
+            Step::ToldEach(Answer::Word(0), 20),
+            Step::Holds(1),
+            Step::Sets(STATE, "5"),
         ],
-    );
+    ];
+    plays(&rt, rt.alloc(), PARTS);
 }
 
 #[test]

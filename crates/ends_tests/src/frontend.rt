@@ -50,52 +50,40 @@ const CONNECTS: &[Step<'static>] = &[
 
 #[test]
 fn the_state_is_read_after_each_watch_until_the_back_offers(rt: HostRuntime) {
-    plays(
-        &rt,
-        rt.alloc(),
-        0,
-        &[
-            &[Step::Watches, Step::Sees("1"), Step::Waits(true)],
-            READS,
-            READS_ORDER,
-            &[Step::Asks(Ask::Write(2, 0, 7))],
-        ],
-    );
+    const PARTS: &[&[Step<'static>]] = &[
+        &[Step::Watches, Step::Sees("1"), Step::Waits(true)],
+        READS,
+        READS_ORDER,
+        &[Step::Asks(Ask::Write(2, 0, 7))],
+    ];
+    plays(&rt, rt.alloc(), 0, PARTS);
 }
 
 #[test]
 fn the_ring_is_published_and_waits_for_the_back(rt: HostRuntime) {
-    plays(
-        &rt,
-        rt.alloc(),
-        0,
+    const PARTS: &[&[Step<'static>]] = &[
+        &[Step::Watches],
+        READS,
+        READS_ORDER,
+        PUBLISHES,
         &[
-            &[Step::Watches],
-            READS,
-            READS_ORDER,
-            PUBLISHES,
-            &[
-                Step::Sees("2"),
-                Step::IsAsking(Ask::Wait),
-                Step::Waits(true),
-            ],
+            Step::Sees("2"),
+            Step::IsAsking(Ask::Wait),
+            Step::Waits(true),
         ],
-    );
+    ];
+    plays(&rt, rt.alloc(), 0, PARTS);
 }
 
 #[test]
 fn a_front_that_wishes_for_more_pages_has_as_many_as_are_offered(rt: HostRuntime) {
-    plays(
-        &rt,
-        rt.alloc(),
-        2,
-        &[
-            &[Step::Watches],
-            READS,
-            &[Step::Gets(&[("max-ring-page-order", "0")])],
-            PUBLISHES,
-        ],
-    );
+    const PARTS: &[&[Step<'static>]] = &[
+        &[Step::Watches],
+        READS,
+        &[Step::Gets(&[("max-ring-page-order", "0")])],
+        PUBLISHES,
+    ];
+    plays(&rt, rt.alloc(), 2, PARTS);
 }
 
 // It reads, as the back connects, that the disk has no sectors, or one that is read-only; it was
@@ -114,39 +102,31 @@ const READ_ONLY: &[Step<'static>] = &[
 
 #[test]
 fn a_front_refuses_by_the_sectors_that_it_read(rt: HostRuntime) {
-    plays(
-        &rt,
-        rt.alloc(),
-        0,
+    const PARTS: &[&[Step<'static>]] = &[
+        &[Step::Watches],
+        READS,
+        READS_ORDER,
+        PUBLISHES,
+        NO_SECTORS,
         &[
-            &[Step::Watches],
-            READS,
-            READS_ORDER,
-            PUBLISHES,
-            NO_SECTORS,
-            &[
-                Step::Writing(Err(Refusal::Range)),
-                Step::Reading(Err(Refusal::Range)),
-            ],
+            Step::Writing(Err(Refusal::Range)),
+            Step::Reading(Err(Refusal::Range)),
         ],
-    );
+    ];
+    plays(&rt, rt.alloc(), 0, PARTS);
 }
 
 #[test]
 fn a_front_refuses_writes_to_a_disk_that_it_read_to_be_read_only(rt: HostRuntime) {
-    plays(
-        &rt,
-        rt.alloc(),
-        0,
-        &[
-            &[Step::Watches],
-            READS,
-            READS_ORDER,
-            PUBLISHES,
-            READ_ONLY,
-            &[Step::Writing(Err(Refusal::ReadOnly)), Step::Reading(Ok(1))],
-        ],
-    );
+    const PARTS: &[&[Step<'static>]] = &[
+        &[Step::Watches],
+        READS,
+        READS_ORDER,
+        PUBLISHES,
+        READ_ONLY,
+        &[Step::Writing(Err(Refusal::ReadOnly)), Step::Reading(Ok(1))],
+    ];
+    plays(&rt, rt.alloc(), 0, PARTS);
 }
 
 // The responses' producer is read.
@@ -157,123 +137,103 @@ const EVENT: Ask = Ask::Write(2, 3, 8);
 
 #[test]
 fn a_ready_front_issues_sleeps_and_takes_its_watch(rt: HostRuntime) {
-    plays(
-        &rt,
-        rt.alloc(),
-        0,
+    const PARTS: &[&[Step<'static>]] = &[
+        &[Step::Watches],
+        READS,
+        READS_ORDER,
+        PUBLISHES,
+        CONNECTS,
         &[
-            &[Step::Watches],
-            READS,
-            READS_ORDER,
-            PUBLISHES,
-            CONNECTS,
-            &[
-                Step::Reads(LOOK, 7),
-                Step::AsksAll(&[EVENT, Ask::Fence]),
-                Step::Waits(false),
-                Step::Reads(LOOK, 7),
-                Step::Waits(true),
-                Step::Sees("4"),
-                Step::Waits(true),
-                Step::Writing(Ok(1)),
-                Step::Owed(1, 1),
-                Step::Asks(Ask::Write(18, 0, 7)),
-            ],
+            Step::Reads(LOOK, 7),
+            Step::AsksAll(&[EVENT, Ask::Fence]),
+            Step::Waits(false),
+            Step::Reads(LOOK, 7),
+            Step::Waits(true),
+            Step::Sees("4"),
+            Step::Waits(true),
+            Step::Writing(Ok(1)),
+            Step::Owed(1, 1),
+            Step::Asks(Ask::Write(18, 0, 7)),
         ],
-    );
+    ];
+    plays(&rt, rt.alloc(), 0, PARTS);
 }
 
 #[test]
 fn a_broken_front_takes_its_watch_and_reads_nothing(rt: HostRuntime) {
-    plays(
-        &rt,
-        rt.alloc(),
-        0,
+    const PARTS: &[&[Step<'static>]] = &[
+        &[Step::Watches],
+        READS,
+        READS_ORDER,
+        PUBLISHES,
+        CONNECTS,
         &[
-            &[Step::Watches],
-            READS,
-            READS_ORDER,
-            PUBLISHES,
-            CONNECTS,
-            &[
-                Step::HasTold(false),
-                Step::Breaks(LOOK, 8),
-                Step::Waits(true),
-                Step::Asks(Ask::Wait),
-                Step::Waits(true),
-                Step::Asks(Ask::Wait),
-            ],
+            Step::HasTold(false),
+            Step::Breaks(LOOK, 8),
+            Step::Waits(true),
+            Step::Asks(Ask::Wait),
+            Step::Waits(true),
+            Step::Asks(Ask::Wait),
         ],
-    );
+    ];
+    plays(&rt, rt.alloc(), 0, PARTS);
 }
 
 #[test]
 fn a_front_that_closes_leaves_once_the_back_is_gone(rt: HostRuntime) {
-    plays(
-        &rt,
-        rt.alloc(),
-        0,
+    const PARTS: &[&[Step<'static>]] = &[
+        &[Step::Watches],
+        READS,
+        READS_ORDER,
+        PUBLISHES,
+        CONNECTS,
         &[
-            &[Step::Watches],
-            READS,
-            READS_ORDER,
-            PUBLISHES,
-            CONNECTS,
-            &[
-                Step::Closes,
-                Step::Writing(Err(Refusal::Closing)),
-                Step::Says("5", None),
-                Step::Sees("5"),
-                Step::Waits(true),
-                Step::Sees("6"),
-                Step::Waits(false),
-                // it ends the grant of its ring, whose entry's first word is 1, and closes its port
-                Step::Reads(Ask::Read(0, 16), 1),
-                Step::Reads(Ask::Cas(0, 16, 1, 0), 1),
-                Step::Asks(Ask::ClosePort),
-                Step::Says("6", Some(FrontNews::Closed)),
-                Step::Waits(true),
-            ],
+            Step::Closes,
+            Step::Writing(Err(Refusal::Closing)),
+            Step::Says("5", None),
+            Step::Sees("5"),
+            Step::Waits(true),
+            Step::Sees("6"),
+            Step::Waits(false),
+            // it ends the grant of its ring, whose entry's first word is 1, and closes its port
+            Step::Reads(Ask::Read(0, 16), 1),
+            Step::Reads(Ask::Cas(0, 16, 1, 0), 1),
+            Step::Asks(Ask::ClosePort),
+            Step::Says("6", Some(FrontNews::Closed)),
+            Step::Waits(true),
         ],
-    );
+    ];
+    plays(&rt, rt.alloc(), 0, PARTS);
 }
 
 #[test]
 fn a_front_without_a_ring_closes_too(rt: HostRuntime) {
-    plays(
-        &rt,
-        rt.alloc(),
-        0,
-        &[&[
-            Step::Watches,
-            Step::Closes,
-            Step::Says("5", None),
-            Step::Sees("6"),
-            Step::Says("6", Some(FrontNews::Closed)),
-        ]],
-    );
+    const PARTS: &[&[Step<'static>]] = &[&[
+        Step::Watches,
+        Step::Closes,
+        Step::Says("5", None),
+        Step::Sees("6"),
+        Step::Says("6", Some(FrontNews::Closed)),
+    ]];
+    plays(&rt, rt.alloc(), 0, PARTS);
 }
 
 #[test]
 fn a_front_that_reads_no_state_is_broken(rt: HostRuntime) {
-    plays(
-        &rt,
-        rt.alloc(),
-        0,
+    const PARTS: &[&[Step<'static>]] = &[
+        &[Step::Watches],
+        READS,
+        READS_ORDER,
+        PUBLISHES,
+        CONNECTS,
         &[
-            &[Step::Watches],
-            READS,
-            READS_ORDER,
-            PUBLISHES,
-            CONNECTS,
-            &[
-                Step::Reads(LOOK, 7),
-                Step::AsksAll(&[EVENT, Ask::Fence]),
-                Step::Reads(LOOK, 7),
-                Step::Asks(Ask::Wait),
-                Step::Learns("state", "four", FrontNews::Broken(9)),
-                Step::Waits(true),
-            ],
+            Step::Reads(LOOK, 7),
+            Step::AsksAll(&[EVENT, Ask::Fence]),
+            Step::Reads(LOOK, 7),
+            Step::Asks(Ask::Wait),
+            Step::Learns("state", "four", FrontNews::Broken(9)),
+            Step::Waits(true),
         ],
-    );
+    ];
+    plays(&rt, rt.alloc(), 0, PARTS);
 }

@@ -1,5 +1,6 @@
 // Jobs: their requests, moves, steps and outcomes.
 use super::ENTRIES;
+use crate::expected::{holds_at, holds_of, same_at, same_of};
 use crate::given::line_of;
 use blk_base::{Abi, Mode, Move};
 use report_rules::{
@@ -44,7 +45,7 @@ const STRETCHES: &[(Option<Abi>, usize, Option<u64>)] = &[
 fn have_entries(rt: &impl Abort, cases: &[(Option<Abi>, usize, Option<u64>)]) {
     for (abi, count, id) in cases {
         let found = id_read(*abi, &ENTRIES[..(*count).min(56)]);
-        assert_eq!(rt; found, *id, "{count}");
+        same_at(rt, *count as u64, found, *id);
     }
 }
 
@@ -136,7 +137,7 @@ const LINES: &[(&str, Told)] = &[
 
 fn tell(rt: &impl Abort, cases: &[(&str, Told)]) {
     for (text, told) in cases {
-        assert!(rt; is_told(&line_of(rt, text), *told), "{text}");
+        holds_of(rt, text, is_told(&line_of(rt, text), *told));
     }
 }
 
@@ -149,7 +150,7 @@ const FRAMES: &[(Task, u32)] = &[(STORE, 24), (LOAD, 25), (PAGE, 30), (Task::Flu
 
 fn have_frames(rt: &impl Abort, cases: &[(Task, u32)]) {
     for (task, gref) in cases {
-        assert_eq!(rt; gref_of(task), *gref);
+        same_at(rt, u64::from(*gref), gref_of(task), *gref);
     }
 }
 
@@ -186,7 +187,7 @@ const STEPS: &[(Task, u64, &str, bool)] = &[
 fn step(rt: &impl Abort, cases: &[(Task, u64, &str, bool)]) {
     for (task, place, text, right) in cases {
         let found = is_step_at(task, *place, &move_of(rt, text));
-        assert_eq!(rt; found, *right, "{place}, {text}");
+        holds_at(rt, (text, *place), found == *right);
     }
 }
 
@@ -207,7 +208,7 @@ const UNMAPPED: &[(bool, Task, u64, &str, bool)] = &[
 fn step_unmapped(rt: &impl Abort, cases: &[(bool, Task, u64, &str, bool)]) {
     for (persistent, task, place, text, may) in cases {
         let found = is_unmapped_step(*persistent, task, *place, &move_of(rt, text));
-        assert_eq!(rt; found, *may, "{persistent}, {place}, {text}");
+        assert!(rt; found == *may, "{persistent}, {place}, {text}");
     }
 }
 
@@ -258,7 +259,7 @@ const WAY: &[(Place, &str, Option<(Place, u64)>)] = &[
 fn come(rt: &impl Abort, cases: &[(Place, &str, Option<(Place, u64)>)]) {
     for (place, text, after) in cases {
         let found = comes(*place, &move_of(rt, text));
-        assert_eq!(rt; found, *after, "{text}");
+        same_of(rt, text, found, *after);
     }
 }
 

@@ -1,4 +1,5 @@
 // What one line tells of the ring and the back, and whose line it is.
+use crate::expected::holds_of;
 use crate::given::line_of;
 use blk_base::{Abi, Mode};
 use report_rules::{
@@ -39,7 +40,7 @@ fn is_told(line: &Line, told: Told) -> bool {
 
 fn tell(rt: &impl Abort, cases: &[(&str, Told)]) {
     for (text, told) in cases {
-        assert!(rt; is_told(&line_of(rt, text), *told), "{text}");
+        holds_of(rt, text, is_told(&line_of(rt, text), *told));
     }
 }
 

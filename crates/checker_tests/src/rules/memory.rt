@@ -1,4 +1,5 @@
 // Mappings, and what a grant entry shows of them (`grant_table.h`: GTF_reading is 8, GTF_writing 16).
+use crate::expected::same_at;
 use blk_base::Mode;
 use report_rules::{entry_mapped, entry_unmapped};
 use std::process::Abort;
@@ -13,7 +14,7 @@ const MAPS: &[(u32, Mode, u32)] = &[
 
 fn map(rt: &impl Abort, cases: &[(u32, Mode, u32)]) {
     for (word0, mode, shown) in cases {
-        assert_eq!(rt; entry_mapped(*word0, *mode), *shown, "{word0}");
+        same_at(rt, u64::from(*word0), entry_mapped(*word0, *mode), *shown);
     }
 }
 

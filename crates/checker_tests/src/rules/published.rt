@@ -1,4 +1,5 @@
 // What one line tells of the disk, and of what both ends publish of grants (`io/blkif.h`).
+use crate::expected::holds_of;
 use crate::given::line_of;
 use report_rules::{Keeping, info_told, keeping_after};
 use schedule_text::Line;
@@ -86,7 +87,7 @@ const CASES: &[(&str, Told)] = &[
 
 fn tell(rt: &impl Abort, cases: &[(&str, Told)]) {
     for (text, told) in cases {
-        assert!(rt; is_told(&line_of(rt, text), *told), "{text}");
+        holds_of(rt, text, is_told(&line_of(rt, text), *told));
     }
 }
 

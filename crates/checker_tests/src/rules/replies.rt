@@ -1,4 +1,5 @@
 // When a job is at its end, and which words are those of a reply.
+use crate::expected::{holds, holds_at};
 use blk_base::Status;
 use report_rules::{Spot, end_of, is_event, is_like};
 use std::process::Abort;
@@ -27,7 +28,7 @@ fn spot_at(place: Option<(usize, u64, bool)>) -> Option<Spot> {
 fn end(rt: &impl Abort, cases: &[(bool, Option<(usize, u64, bool)>, Option<Status>)]) {
     for (failed, place, wanted) in cases {
         let found = end_of(*failed, 2, Status::Okay, spot_at(*place));
-        assert!(rt; found == *wanted);
+        holds(rt, found == *wanted);
     }
 }
 
@@ -45,7 +46,7 @@ const EVENTS: &[(Option<u128>, bool)] = &[
 
 fn send(rt: &impl Abort, cases: &[(Option<u128>, bool)]) {
     for (word, event) in cases {
-        assert_eq!(rt; is_event(*word), *event);
+        holds(rt, is_event(*word) == *event);
     }
 }
 
@@ -68,7 +69,11 @@ const ROWS: &[(usize, [u32; 3], Option<[u32; 3]>, bool)] = &[
 
 fn compare(rt: &impl Abort, cases: &[(usize, [u32; 3], Option<[u32; 3]>, bool)]) {
     for (last, row, words, alike) in cases {
-        assert_eq!(rt; is_like(*last, row, words), *alike, "up to {last}");
+        holds_at(
+            rt,
+            ("up to", *last as u64),
+            is_like(*last, row, words) == *alike,
+        );
     }
 }
 

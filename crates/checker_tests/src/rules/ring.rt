@@ -1,4 +1,5 @@
 // The pages of the ring and its entries.
+use crate::expected::{same_at, same_of};
 use report_rules::{of_entries, order_of};
 use std::process::Abort;
 
@@ -15,7 +16,7 @@ const ORDERS: &[(usize, Option<u32>)] = &[
 
 fn order(rt: &impl Abort, cases: &[(usize, Option<u32>)]) {
     for (pages, wanted) in cases {
-        assert_eq!(rt; order_of(*pages), *wanted, "{pages} pages");
+        same_at(rt, *pages as u64, order_of(*pages), *wanted);
     }
 }
 
@@ -33,7 +34,7 @@ const WORDS: &[(Option<u128>, Option<u128>)] = &[
 
 fn begin(rt: &impl Abort, cases: &[(Option<u128>, Option<u128>)]) {
     for (word, of) in cases {
-        assert_eq!(rt; of_entries(*word), *of);
+        same_of(rt, "a word", of_entries(*word), *of);
     }
 }
 

@@ -1,6 +1,6 @@
 // The work of entries, by hand from the header's structs.
 use super::ENTRY;
-use crate::expected::same;
+use crate::expected::{holds, holds_of, same};
 use blk_base::{Abi, Mode, Status};
 use blk_layout::{RawRequest, Response, Segment, read_request};
 use report_rules::{Task, status_by, work_response, work_tasks, work_verdict};
@@ -244,7 +244,7 @@ fn work(rt: &impl Abort, alloc: Global, cases: &[Case]) {
     for (name, given, persistent, words, tasks) in cases {
         let found = work_tasks(alloc, &request_of(*given), &DISK, *persistent, words);
         let found = found.expect(rt, "memory");
-        assert!(rt; found.as_slice() == *tasks, "{name}");
+        holds_of(rt, name, found.as_slice() == *tasks);
     }
 }
 
@@ -269,7 +269,7 @@ fn verdict_of(rt: &impl Abort, alloc: Global, given: Given, words: &[u32]) -> Ve
 fn end(rt: &impl Abort, alloc: Global, cases: &[Ending]) {
     for (given, words, status) in cases {
         let verdict = verdict_of(rt, alloc, *given, words);
-        assert!(rt; status_by(&verdict) == *status);
+        holds(rt, status_by(&verdict) == *status);
     }
 }
 
@@ -306,7 +306,7 @@ const RESPONSES: &[(Given, Response)] = &[
 fn respond(rt: &impl Abort, cases: &[(Given, Response)]) {
     for (given, wanted) in cases {
         let found = work_response(&request_of(*given), wanted.status);
-        assert!(rt; found == *wanted);
+        holds(rt, found == *wanted);
     }
 }
 

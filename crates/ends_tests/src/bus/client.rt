@@ -24,9 +24,9 @@ fn watch(rt: &impl Abort, keys: &mut Keys, who: End, path: &Path) {
     keys.watch(who, path).expect(rt, "memory");
 }
 
-fn take(keys: &mut Keys, who: End) -> Option<&Path> {
+fn take(keys: &mut Keys, who: End) -> Option<Path> {
     if keys.take_watch(who) {
-        keys.taken_watch(who)
+        keys.taken_watch(who).copied()
     } else {
         None
     }
@@ -36,7 +36,7 @@ fn take(keys: &mut Keys, who: End) -> Option<&Path> {
 fn move_front(rt: &impl Abort, front: &mut FrontBus, keys: &mut Keys) -> Option<FrontNews> {
     match front.ask(true) {
         FrontBusAsk::Wait => match take(keys, End::Front) {
-            Some(path) => front.tell(true, &FrontAnswer::Watched(Lent::at(path))),
+            Some(path) => front.tell(true, &FrontAnswer::Watched(Lent::at(&path))),
             None => None,
         },
         FrontBusAsk::Watch => {
@@ -68,7 +68,7 @@ fn move_front(rt: &impl Abort, front: &mut FrontBus, keys: &mut Keys) -> Option<
 fn move_back(rt: &impl Abort, back: &mut BackBus, keys: &mut Keys) -> Option<BackHalt> {
     match back.ask() {
         BackBusAsk::Wait => match take(keys, End::Back) {
-            Some(path) => back.tell(&BackAnswer::Watched(Lent::at(path))),
+            Some(path) => back.tell(&BackAnswer::Watched(Lent::at(&path))),
             None => None,
         },
         BackBusAsk::Watch => {

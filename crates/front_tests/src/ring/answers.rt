@@ -92,22 +92,58 @@ fn a_back_that_is_not_honest_breaks_it_with_the_word_found(rt: HostRuntime) {
 
 #[test]
 fn a_grant_that_changes_while_it_is_ended_breaks_it(rt: HostRuntime) {
-    plays_after(
-        &rt,
-        rt.alloc(),
-        &ONE_WRITE,
-        &[
-            Step::Responds(0, [1, 0, 1]),
-            Step::Moves(6),
-            Step::Puts(0, 48, 0x0d),
-            Step::Told(News::Broken(0x0d)),
-            Step::Word(0, 48, 0x0d),
-        ],
-    );
+    const STEPS: &[Step<'static>] = &[
+        Step::Responds(0, [1, 0, 1]),
+        Step::Moves(6),
+        Step::Puts(0, 48, 0x0d),
+        Step::Told(News::Broken(0x0d)),
+        Step::Word(0, 48, 0x0d),
+    ];
+    plays_after(&rt, rt.alloc(), &ONE_WRITE, STEPS);
 }
 
 #[test]
 fn three_writes_go_round_the_wrap_of_the_indices(rt: HostRuntime) {
+    const STEPS: &[Step<'static>] = &[
+        Step::Connects(19),
+        Step::Sleeps,
+        Step::Takes(Work::Write(0, 1, 7), 1),
+        Step::Moves(163),
+        Step::Word(2, 884, 0xca00_0101),
+        Step::Word(2, 886, 1),
+        Step::Word(2, 0, 0),
+        Step::Puts(2, 1, 1),
+        Step::Responds(4294967295, [1, 0, 1]),
+        Step::ToldSoon(News::Answer(1, Status::Okay)),
+        Step::Moves(4),
+        Step::Idle(true),
+        // in the first slot
+        Step::Takes(Work::Write(0, 1, 7), 2),
+        Step::Moves(163),
+        Step::Word(2, 16, 0xca00_0101),
+        Step::Word(2, 18, 2),
+        Step::Word(2, 0, 1),
+        Step::Puts(2, 1, 2),
+        Step::Responds(0, [2, 0, 1]),
+        Step::ToldSoon(News::Answer(2, Status::Okay)),
+        Step::Moves(4),
+        Step::Idle(true),
+        // in the second one
+        Step::Takes(Work::Write(0, 1, 7), 3),
+        Step::Moves(163),
+        Step::Word(2, 44, 0xca00_0101),
+        Step::Word(2, 46, 3),
+        Step::Word(2, 0, 2),
+        Step::Puts(2, 1, 3),
+        Step::Responds(1, [3, 0, 1]),
+        Step::ToldSoon(News::Answer(3, Status::Okay)),
+        Step::Moves(4),
+        Step::Idle(true),
+        Step::Word(2, 0, 2),
+        Step::Word(2, 1, 3),
+        Step::Word(2, 2, 2),
+        Step::Word(2, 3, 3),
+    ];
     plays(
         &rt,
         rt.alloc(),
@@ -115,45 +151,6 @@ fn three_writes_go_round_the_wrap_of_the_indices(rt: HostRuntime) {
             start: 4294967295,
             ..EIGHT
         },
-        &[
-            Step::Connects(19),
-            Step::Sleeps,
-            Step::Takes(Work::Write(0, 1, 7), 1),
-            Step::Moves(163),
-            Step::Word(2, 884, 0xca00_0101),
-            Step::Word(2, 886, 1),
-            Step::Word(2, 0, 0),
-            Step::Puts(2, 1, 1),
-            Step::Responds(4294967295, [1, 0, 1]),
-            Step::ToldSoon(News::Answer(1, Status::Okay)),
-            Step::Moves(4),
-            Step::Idle(true),
-            // in the first slot
-            Step::Takes(Work::Write(0, 1, 7), 2),
-            Step::Moves(163),
-            Step::Word(2, 16, 0xca00_0101),
-            Step::Word(2, 18, 2),
-            Step::Word(2, 0, 1),
-            Step::Puts(2, 1, 2),
-            Step::Responds(0, [2, 0, 1]),
-            Step::ToldSoon(News::Answer(2, Status::Okay)),
-            Step::Moves(4),
-            Step::Idle(true),
-            // in the second one
-            Step::Takes(Work::Write(0, 1, 7), 3),
-            Step::Moves(163),
-            Step::Word(2, 44, 0xca00_0101),
-            Step::Word(2, 46, 3),
-            Step::Word(2, 0, 2),
-            Step::Puts(2, 1, 3),
-            Step::Responds(1, [3, 0, 1]),
-            Step::ToldSoon(News::Answer(3, Status::Okay)),
-            Step::Moves(4),
-            Step::Idle(true),
-            Step::Word(2, 0, 2),
-            Step::Word(2, 1, 3),
-            Step::Word(2, 2, 2),
-            Step::Word(2, 3, 3),
-        ],
+        STEPS,
     );
 }

@@ -25,104 +25,88 @@ const READ: SectorPart = SectorPart {
 
 #[test]
 fn the_sectors_of_a_write_are_written_one_after_another(rt: HostRuntime) {
-    plays(
-        &rt,
-        rt.alloc(),
-        &EIGHT,
-        &[
-            Step::Part(None),
-            Step::Connects(19),
-            Step::Sleeps,
-            Step::Part(None),
-            Step::Takes(Work::Write(0, 2, 7), 1),
-            Step::Part(Some(WRITTEN)),
-            Step::WritesPart(128),
-            Step::Part(Some(SectorPart {
-                index: 1,
-                word: 128,
-                value: Some(8),
-                ..WRITTEN
-            })),
-            Step::WritesPart(128),
-            Step::Word(18, 0, 7),
-            Step::Word(18, 127, 7),
-            Step::Word(18, 128, 8),
-            Step::Word(18, 255, 8),
-            // its grant
-            Step::Part(None),
-            Step::AsksAll(&[Ask::Write(0, 49, 18), Ask::Fence, Ask::Write(0, 48, 5)]),
-        ],
-    );
+    const STEPS: &[Step<'static>] = &[
+        Step::Part(None),
+        Step::Connects(19),
+        Step::Sleeps,
+        Step::Part(None),
+        Step::Takes(Work::Write(0, 2, 7), 1),
+        Step::Part(Some(WRITTEN)),
+        Step::WritesPart(128),
+        Step::Part(Some(SectorPart {
+            index: 1,
+            word: 128,
+            value: Some(8),
+            ..WRITTEN
+        })),
+        Step::WritesPart(128),
+        Step::Word(18, 0, 7),
+        Step::Word(18, 127, 7),
+        Step::Word(18, 128, 8),
+        Step::Word(18, 255, 8),
+        // its grant
+        Step::Part(None),
+        Step::AsksAll(&[Ask::Write(0, 49, 18), Ask::Fence, Ask::Write(0, 48, 5)]),
+    ];
+    plays(&rt, rt.alloc(), &EIGHT, STEPS);
 }
 
 #[test]
 fn a_part_goes_on_where_single_moves_end(rt: HostRuntime) {
-    plays(
-        &rt,
-        rt.alloc(),
-        &EIGHT,
-        &[
-            Step::Connects(19),
-            Step::Sleeps,
-            Step::Takes(Work::Write(0, 1, 7), 1),
-            Step::WritesPart(0),
-            Step::Part(Some(WRITTEN)),
-            Step::Asks(Ask::Write(18, 0, 7)),
-            Step::WritesPart(100),
-            Step::Part(Some(SectorPart {
-                word: 101,
-                count: 27,
-                ..WRITTEN
-            })),
-            Step::Asks(Ask::Write(18, 101, 7)),
-            Step::WritesPart(26),
-            Step::Asks(Ask::Write(0, 49, 18)),
-        ],
-    );
+    const STEPS: &[Step<'static>] = &[
+        Step::Connects(19),
+        Step::Sleeps,
+        Step::Takes(Work::Write(0, 1, 7), 1),
+        Step::WritesPart(0),
+        Step::Part(Some(WRITTEN)),
+        Step::Asks(Ask::Write(18, 0, 7)),
+        Step::WritesPart(100),
+        Step::Part(Some(SectorPart {
+            word: 101,
+            count: 27,
+            ..WRITTEN
+        })),
+        Step::Asks(Ask::Write(18, 101, 7)),
+        Step::WritesPart(26),
+        Step::Asks(Ask::Write(0, 49, 18)),
+    ];
+    plays(&rt, rt.alloc(), &EIGHT, STEPS);
 }
 
 #[test]
 fn the_sector_that_is_told_has_the_words_of_both_its_parts(rt: HostRuntime) {
-    plays_after(
-        &rt,
-        rt.alloc(),
-        &ANSWERED,
-        &[
-            Step::Part(Some(READ)),
-            Step::ReadsPart(100),
-            Step::HasTold(false),
-            Step::Part(Some(SectorPart {
-                word: 100,
-                count: 28,
-                ..READ
-            })),
-            Step::ReadsPart(28),
-            Step::Taken(News::Sector(1, 0, Data::Counted)),
-            Step::Part(None),
-            Step::Owed(0, 0),
-        ],
-    );
+    const STEPS: &[Step<'static>] = &[
+        Step::Part(Some(READ)),
+        Step::ReadsPart(100),
+        Step::HasTold(false),
+        Step::Part(Some(SectorPart {
+            word: 100,
+            count: 28,
+            ..READ
+        })),
+        Step::ReadsPart(28),
+        Step::Taken(News::Sector(1, 0, Data::Counted)),
+        Step::Part(None),
+        Step::Owed(0, 0),
+    ];
+    plays_after(&rt, rt.alloc(), &ANSWERED, STEPS);
 }
 
 #[test]
 fn data_that_a_suspend_left_are_read_so_too(rt: HostRuntime) {
-    plays_after(
-        &rt,
-        rt.alloc(),
-        &ANSWERED,
-        &[
-            Step::Moves(5),
-            Step::Suspends,
-            Step::Part(Some(SectorPart {
-                word: 5,
-                count: 123,
-                ..READ
-            })),
-            Step::ReadsPart(123),
-            Step::Taken(News::Sector(1, 0, Data::Counted)),
-            // the ring is made anew
-            Step::Part(None),
-            Step::Asks(Ask::Write(2, 0, 0)),
-        ],
-    );
+    const STEPS: &[Step<'static>] = &[
+        Step::Moves(5),
+        Step::Suspends,
+        Step::Part(Some(SectorPart {
+            word: 5,
+            count: 123,
+            ..READ
+        })),
+        Step::ReadsPart(123),
+        Step::Taken(News::Sector(1, 0, Data::Counted)),
+        // the ring is made anew
+        Step::Part(None),
+        Step::Asks(Ask::Write(2, 0, 0)),
+    ];
+    plays_after(&rt, rt.alloc(), &ANSWERED, STEPS);
 }

@@ -10,20 +10,16 @@ const ENTRY: [u32; 8] = [0xca00_0100, 0, 1, 0, 3, 0, 0x18, 0];
 
 #[test]
 fn the_first_read_takes_35_moves_and_sends_an_event(rt: HostRuntime) {
-    plays(
-        &rt,
-        rt.alloc(),
-        &EIGHT,
-        &[
-            Step::Connects(19),
-            Step::Sleeps,
-            Step::Takes(Work::Read(3, 1), 1),
-            Step::AsksAll(&[Ask::Write(0, 49, 18), Ask::Fence, Ask::Write(0, 48, 1)]),
-            Step::Writes(2, 16, 28, &ENTRY),
-            Step::AsksAll(&[Ask::Write(2, 0, 1), Ask::Fence, Ask::Read(2, 1), Ask::Send]),
-            Step::Asks(Ask::Wait),
-        ],
-    );
+    const STEPS: &[Step<'static>] = &[
+        Step::Connects(19),
+        Step::Sleeps,
+        Step::Takes(Work::Read(3, 1), 1),
+        Step::AsksAll(&[Ask::Write(0, 49, 18), Ask::Fence, Ask::Write(0, 48, 1)]),
+        Step::Writes(2, 16, 28, &ENTRY),
+        Step::AsksAll(&[Ask::Write(2, 0, 1), Ask::Fence, Ask::Read(2, 1), Ask::Send]),
+        Step::Asks(Ask::Wait),
+    ];
+    plays(&rt, rt.alloc(), &EIGHT, STEPS);
 }
 
 // The response is read, and the grant is looked at.
@@ -54,37 +50,28 @@ pub const ANSWERED: [Step<'static>; 9] = [
 
 #[test]
 fn the_data_of_a_read_are_told_after_its_answer(rt: HostRuntime) {
-    plays_after(
-        &rt,
-        rt.alloc(),
-        &ANSWERED,
-        &[
-            // nothing else is done in between, though a write waits that has the next frame
-            Step::Takes(Work::Write(3, 1, 9), 2),
-            Step::Reads(18, 127, (2, 2)),
-            Step::Tells(Ask::Read(18, 127), News::Sector(1, 0, Data::Counted)),
-            Step::Owed(1, 1),
-            Step::Asks(Ask::Write(19, 0, 9)),
-        ],
-    );
+    const STEPS: &[Step<'static>] = &[ // nothing else is done in between, though a write waits that has the next frame
+        Step::Takes(Work::Write(3, 1, 9), 2),
+        Step::Reads(18, 127, (2, 2)),
+        Step::Tells(Ask::Read(18, 127), News::Sector(1, 0, Data::Counted)),
+        Step::Owed(1, 1),
+        Step::Asks(Ask::Write(19, 0, 9)),
+    ];
+    plays_after(&rt, rt.alloc(), &ANSWERED, STEPS);
 }
 
 #[test]
 fn the_frame_of_a_read_is_free_once_its_data_are_told(rt: HostRuntime) {
-    plays_after(
-        &rt,
-        rt.alloc(),
-        &ANSWERED,
-        &[
-            Step::Moves(127),
-            Step::Owed(1, 1),
-            Step::Told(News::Sector(1, 0, Data::Counted)),
-            // nothing is left to be done, and the frame is the lowest free one again
-            Step::Owed(0, 0),
-            Step::Takes(Work::Write(3, 1, 9), 2),
-            Step::Asks(Ask::Write(18, 0, 9)),
-        ],
-    );
+    const STEPS: &[Step<'static>] = &[
+        Step::Moves(127),
+        Step::Owed(1, 1),
+        Step::Told(News::Sector(1, 0, Data::Counted)),
+        // nothing is left to be done, and the frame is the lowest free one again
+        Step::Owed(0, 0),
+        Step::Takes(Work::Write(3, 1, 9), 2),
+        Step::Asks(Ask::Write(18, 0, 9)),
+    ];
+    plays_after(&rt, rt.alloc(), &ANSWERED, STEPS);
 }
 
 // A read whose response has this last word has failed, and its frame is free.
