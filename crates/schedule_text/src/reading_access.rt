@@ -3,6 +3,7 @@
 ghost use Rattle.std.specs.Prelude.{◌≡◌, ◌∷◌, [], ◌++◌, ◌<◌, IsTrue, IfSome, codes, decimal, true};
 ghost use Rattle.line_text.specs.Numbers.{hex8};
 ghost use Rattle.line_text.specs.Words.{spaced};
+ghost use Rattle.schedule_text.specs.declared.line.Line.{Line};
 ghost use Rattle.schedule_text.specs.Access.{access_head};
 ghost use Rattle.schedule_text.specs.Range.{IsTextOf, BackHasWidths, is_back_allowed};
 
@@ -25,6 +26,18 @@ fn read_place(text: &[u8]) -> Option<Place>
     let (word, text) = number_before(text)?;
     let value = whole_hex(text)?;
     Some(Place { frame, word, value })
+}
+
+/// Puts the line of a move in place of `line`. Most lines are moves and come after one: then the room of
+/// a line, which has a sector's words, is not cleared again.
+#[inline(always)]
+fn put_move(made: Move, line: &mut Line)
+    ensures { line.new ≡ Line.Move made }
+{
+    match line {
+        Line::Move(last) => *last = made,
+        _ => *line = Line::Move(made),
+    }
 }
 
 /// Puts the line of an access in place of `line`, where the text is one; else any line may lie there.
@@ -72,7 +85,7 @@ fn front_write(text: &[u8], line: &mut Line) -> bool
     let Some(Place { frame, word, value }) = read_place(text) else {
         return false;
     };
-    *line = Line::Move(Move::FrontWrite { frame, word, value });
+    put_move(Move::FrontWrite { frame, word, value }, line);
     true
 }
 
@@ -82,7 +95,7 @@ fn front_read(text: &[u8], line: &mut Line) -> bool
     let Some(Place { frame, word, value }) = read_place(text) else {
         return false;
     };
-    *line = Line::Move(Move::FrontRead { frame, word, value });
+    put_move(Move::FrontRead { frame, word, value }, line);
     true
 }
 
@@ -112,13 +125,14 @@ fn back_read(who: BackMover, text: &[u8], line: &mut Line) -> bool
     let Some(Place { frame, word, value }) = read_place(rest) else {
         return false;
     };
-    *line = Line::Move(Move::Read {
+    let made = Move::Read {
         who,
         mapping: u64::from(number),
         frame,
         word,
         value,
-    });
+    };
+    put_move(made, line);
     true
 }
 
@@ -133,12 +147,13 @@ fn back_write(who: BackMover, text: &[u8], line: &mut Line) -> bool
     let Some(Place { frame, word, value }) = read_place(rest) else {
         return false;
     };
-    *line = Line::Move(Move::Write {
+    let made = Move::Write {
         who,
         mapping: u64::from(number),
         frame,
         word,
         value,
-    });
+    };
+    put_move(made, line);
     true
 }

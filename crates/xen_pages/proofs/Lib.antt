@@ -1,3 +1,4 @@
 pub mod Apart
 pub mod Parts
 pub mod Words
+mod Zeros

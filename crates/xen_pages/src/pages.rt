@@ -1,5 +1,5 @@
 // Frames of words.
-ghost use Rattle.std.specs.Prelude.{◌≡◌, ◌+◌, ◌<◌, ◌≤◌, ◌++◌, length, take, drop, IfOk};
+ghost use Rattle.std.specs.Prelude.{◌≡◌, ◌+◌, ◌*◌, ◌<◌, ◌≤◌, ◌++◌, length, take, drop, IfOk};
 ghost use Rattle.xen_pages.specs.Pages.{word_of, with_word, words_of, with_words, zero_words, fresh_pages, owner_of, OnlyChanges, OnlyChangesWords};
 
 use blk_base::OutOfMemory;
@@ -11,6 +11,8 @@ const FRAMES: usize = 1088;
 const FRAME_WORDS: usize = 1024;
 
 const WORDS: usize = FRAMES * FRAME_WORDS;
+
+const PIECE: usize = 256;
 
 /// All frames of both domains. Contracts see the list of all words, frame after frame.
 #[derive(Drop)]
@@ -34,7 +36,7 @@ impl Pages {
         ensures zero { IfOk result (λ pages. pages ≡ fresh_pages) }
     {
         Ok(Pages {
-            words: zeroed(alloc, WORDS)?,
+            words: zeroed(alloc, WORDS / PIECE)?,
         })
     }
 
@@ -98,10 +100,13 @@ fn put(all: &mut [u32], first: usize, words: &[u32])
     all[first..first + words.len()].copy_from_slice(words);
 }
 
+// So many pieces of words of 0, one after another. They are short: the C library clears a long stretch by an
+// instruction that goes a byte at a time on some machines.
 #[tactic(auto, unfolding(crate::specs::Pages::zero_words))]
-fn zeroed(alloc: Global, count: usize) -> Result<Vec<u32>, OutOfMemory>
-    ensures zero { IfOk result (λ words. words.items ≡ zero_words count) }
-    ensures len { IfOk result (λ words. length words.items ≡ count) }
+fn zeroed(alloc: Global, pieces: usize) -> Result<Vec<u32>, OutOfMemory>
+    requires { pieces ≤ 4352 }
+    ensures zero { IfOk result (λ words. words.items ≡ zero_words (pieces * 256)) }
+    ensures len { IfOk result (λ words. length words.items ≡ pieces * 256) }
 {
-    Ok(vec![in alloc; 0; count]?)
+    Ok([0; PIECE].repeat(alloc, pieces)?)
 }
