@@ -1,3 +1,4 @@
+pub mod EntrySteps
 pub mod Grants
 pub mod Numbers
 pub mod Order

@@ -96,7 +96,7 @@ untold : (e : Ending) (n : ℕ) (words : List ℕ) (v : View) → n % 128 < 127 
 untold e n words v lt = ap (λ (b : Bool). if b then record v { words = words; told = Some (told.Sector e.request.number (n / 128) words) } else record v { words = words }) (ne_eqb (n % 128) 127 (λ same. omega arith))
 
 -- a front is itself at its own stage
-itself : (v : View) (s : FrontStage) → v.stage ≡ s → at s v ≡ v
+pub itself : (v : View) (s : FrontStage) → v.stage ≡ s → at s v ≡ v
 itself v s is = ap (λ (x : FrontStage). at x v) (sym is)
 
 -- so of a front at either stage of reading

@@ -1,17 +1,19 @@
--- Words of a request's data that are moved many at once: as many single moves, one after another.
-use Rattle.std.specs.Prelude.{◌≡◌, ℕ, ◌+◌, ◌-◌, ◌/◌, ◌%◌, ◌<◌, ◌≤◌, List, [], ◌∷◌, length, map, replicate, slice_set, Option, Some, None, IsSome, IsSomeAnd, if◌then◌else◌, nat_lt}
+-- Words of a request's data, and of its entry, that are moved many at once: as many single moves, one after another.
+use Rattle.std.specs.Prelude.{◌≡◌, ℕ, ◌+◌, ◌-◌, ◌/◌, ◌%◌, ◌<◌, ◌≤◌, List, [], ◌∷◌, length, map, replicate, slice_set, slice_index, drop, min, Option, Some, None, IsSome, IsSomeAnd, if◌then◌else◌, nat_lt, ◌==◌, ◌&&◌, Bool}
 use Rattle.std.specs.List.{fold}
 use Rattle.blk_base.specs.declared.ask.FrontAsk.{FrontAsk}
 use Rattle.blk_base.specs.declared.ask.FrontAsk.TheVariants.{Read, Write}
 use Rattle.blk_base.specs.declared.ask.FrontAnswer.{FrontAnswer}
 use Rattle.blk_base.specs.declared.ask.FrontAnswer.TheVariants.{Done, Word}
+use Rattle.ring_words.specs.Shape.{entry_words_of}
+use Rattle.blk_front.specs.declared.entry_part.EntryPart.{EntryPart}
 use Rattle.blk_front.specs.declared.sector_part.SectorPart.{SectorPart}
 use Rattle.blk_front.specs.declared.stage.FrontStage.{FrontStage}
 use Rattle.blk_front.specs.declared.stage.FrontStage.TheVariants as stage
 use Rattle.blk_front.specs.declared.stage.Ending.{Ending}
 use Rattle.blk_front.specs.declared.request.Request.{Request}
 use Rattle.blk_front.specs.Request.{words_in, frame_at, filling_at, is_write}
-use Rattle.blk_front.specs.View.{View, next_request}
+use Rattle.blk_front.specs.View.{View, next_request, slot_frame, slot_word}
 use Rattle.blk_front.specs.Ask.{IsAnswer}
 use Rattle.blk_front.specs.Keep.{ask_as, step_as}
 
@@ -106,3 +108,47 @@ pub record IsWithin (part : SectorPart) : Type 0 where
 abbrev pub with_words : List ℕ → (place : ℕ) → List ℕ → List ℕ
 with_words sector place [] = sector
 with_words sector place (word ∷ rest) = with_words (slice_set sector place word) (place + 1) rest
+
+-- the words of the entry in hand from word k on, up to the last one of the entry, or of their frame where the entry goes on in the next
+abbrev pub entry_from : View → (k : ℕ) → EntryPart
+entry_from v k =
+    let word : ℕ = slot_word v.shape v.ring.indices.prod k in
+    record { frame = slot_frame v.shape v.ring.indices.prod k; word = word; count = min (length v.ring.entry - k) (1024 - word) }
+
+-- the entry in hand is whole, and word k is one of its words
+abbrev pub has_word : View → (k : ℕ) → Bool
+has_word v k = length v.ring.entry == entry_words_of v.shape.abi && nat_lt k (length v.ring.entry)
+
+-- the words of the entry that are written next
+abbrev pub entry_part_at : FrontStage → View → Option EntryPart
+entry_part_at (stage.Slot k) v = if has_word v k then Some (entry_from v k) else None
+entry_part_at s v = None
+
+abbrev pub entry_part : View → Option EntryPart
+entry_part v = entry_part_at v.stage v
+
+-- what they are to be, and those after them up to the entry's last one
+abbrev pub entry_words_at : FrontStage → View → List ℕ
+entry_words_at (stage.Slot k) v = drop k v.ring.entry
+entry_words_at s v = []
+
+abbrev pub entry_words : View → List ℕ
+entry_words v = entry_words_at v.stage v
+
+-- a part has so many words or more, and they are written
+abbrev pub HasEntered : Option EntryPart → ℕ → Type 0
+HasEntered part count = IsSomeAnd part (λ p. count ≤ p.count)
+
+-- after as many answers as are fewer than the part's words the word that far on is asked for, to be as it is in the entry
+abbrev pub AsksEntry : {S : Type 0} → (S → FrontAsk) → (S → FrontAnswer → S) → S → (words : List ℕ) → EntryPart → Type 0
+AsksEntry ask step s words part =
+    (m : ℕ) → m < part.count → ask (fold step s (all_written m)) ≡ Write part.frame (part.word + m) (slice_index words m)
+
+-- a part is 1 to 28 words of one frame of the ring, and each is one of these
+pub record IsEntryWithin (words : List ℕ) (part : EntryPart) : Type 0 where
+  pub low : 2 ≤ part.frame
+  pub high : part.frame < 18
+  pub some : 1 ≤ part.count
+  pub few : part.count ≤ 28
+  pub place : part.word + part.count ≤ 1024
+  pub there : part.count ≤ length words

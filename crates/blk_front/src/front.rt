@@ -10,6 +10,7 @@ ghost use Rattle.blk_front.specs.Entry.{entry_of};
 ghost use Rattle.blk_front.specs.Request.{IsShaped};
 ghost use Rattle.blk_front.specs.Submit.{submit_of, unfinished};
 
+mod entries;
 mod parts;
 mod state;
 mod steps;

@@ -3,6 +3,7 @@
 //! completed one by one. The machine of both domains stands on it.
 #![tactic(auto)]
 
+mod entry_part;
 mod frames;
 mod front;
 mod place;
@@ -13,6 +14,7 @@ mod stage;
 mod state;
 mod told;
 
+pub use entry_part::EntryPart;
 pub use frames::FrameList;
 pub use front::Front;
 pub use pool::PoolFrame;

@@ -46,8 +46,9 @@ use Rattle.vbd_front.specs.Step.{state_of_news, states_due, states_entered, all_
 use Rattle.vbd_front.specs.Part.{steps_of, IsTellable, AreTellable}
 use Rattle.vbd_front.specs.Keep as whole
 use Rattle.vbd_front.specs.Keep.{KeepingView, IsPlain, IsTellableAs, AreTellableAs, with_ring, followed_as}
+use Rattle.blk_front.specs.declared.entry_part.EntryPart.{EntryPart}
 use Rattle.blk_front.specs.declared.sector_part.SectorPart.{SectorPart}
-use Rattle.blk_front.specs.Part.{AllInTurn, AsksWords, AsksEach, all_written, all_read}
+use Rattle.blk_front.specs.Part.{AllInTurn, AsksWords, AsksEach, AsksEntry, all_written, all_read}
 use Rattle.ring_words.specs.Shape.{entries_of}
 
 -- its asks and its steps are the plain ones
@@ -288,3 +289,7 @@ words_plainly k part None plain each = λ words less. later_plainly (all_read wo
 pub parts_plainly : (k : KeepingView) (part : Option SectorPart) → IsPlain k → IfSome part (AsksEach whole.ask_as whole.step_as k) → IfSome part (AsksEach asks.ask_of steps.step_of k.ends)
 parts_plainly k None plain each = tt
 parts_plainly k (Some part) plain each = words_plainly k part part.value plain each
+
+pub entries_plainly : (k : KeepingView) (words : List ℕ) (part : Option EntryPart) → IsPlain k → IfSome part (AsksEntry whole.ask_as whole.step_as k words) → IfSome part (AsksEntry asks.ask_of steps.step_of k.ends words)
+entries_plainly k words None plain each = tt
+entries_plainly k words (Some part) plain each = λ n less. later_plainly (all_written n) k plain ∙ each n less

@@ -1,7 +1,8 @@
--- Words of a request's data that the frontend moves many at once: as many single moves, one after another.
-use Rattle.std.specs.Prelude.{◌≡◌, Bool, true, false, List, Option, None, if◌then◌else◌}
+-- Words of a request's data, and of its entry, that the frontend moves many at once: as many single moves, one after another.
+use Rattle.std.specs.Prelude.{◌≡◌, ℕ, Bool, true, false, List, Option, None, if◌then◌else◌}
 use Rattle.std.specs.List.{fold}
 use Rattle.blk_base.specs.declared.ask.FrontAnswer.{FrontAnswer}
+use Rattle.blk_front.specs.declared.entry_part.EntryPart.{EntryPart}
 use Rattle.blk_front.specs.declared.sector_part.SectorPart.{SectorPart}
 use Rattle.blk_front.specs.View as ring
 use Rattle.blk_front.specs.Part as part
@@ -20,6 +21,20 @@ part_at a v = if speaks a then None else ring_part (ring_moves a v.ring.stage) v
 
 abbrev pub sector_part : View → Option SectorPart
 sector_part v = part_at (bus_ask_of v) v
+
+-- the words of the entry in hand that are written next, likewise, and what they are to be
+abbrev pub ring_entry_part : Bool → ring.View → Option EntryPart
+ring_entry_part true r = part.entry_part r
+ring_entry_part false r = None
+
+abbrev pub entry_part_at : FrontBusAsk → View → Option EntryPart
+entry_part_at a v = if speaks a then None else ring_entry_part (ring_moves a v.ring.stage) v.ring
+
+abbrev pub entry_part : View → Option EntryPart
+entry_part v = entry_part_at (bus_ask_of v) v
+
+abbrev pub entry_words : View → List ℕ
+entry_words v = part.entry_words v.ring
 
 -- a frontend after these answers, told one after another
 abbrev pub steps_of : View → List FrontAnswer → View

@@ -10,13 +10,13 @@ ghost use Rattle.blk_front.specs.State.{is_open};
 ghost use Rattle.blk_front.specs.Suspend.{is_left};
 ghost use Rattle.vbd_front.specs.Keep.{start_as, ask_as, spoken_as, ring_step_as, step_as, closes_as, suspended_as, heard_as, with_ring, steps_as, AreTellableAs};
 ghost use Rattle.vbd_front.specs.Turn.{turn_of};
-ghost use Rattle.blk_front.specs.Part.{HasWritten, HasRead, all_written, all_read, AsksEach, IsWithin};
-ghost use Rattle.vbd_front.specs.Part.{sector_part};
+ghost use Rattle.blk_front.specs.Part.{HasWritten, HasRead, HasEntered, all_written, all_read, AsksEach, AsksEntry, IsWithin, IsEntryWithin};
+ghost use Rattle.vbd_front.specs.Part.{sector_part, entry_part, entry_words};
 
 use crate::news;
 use crate::turn::{self, Turn};
 use blk_base::{Config, Endpoint, FrontAnswer, FrontAsk, OutOfMemory, Refusal, Submission};
-use blk_front::{Front, FrontStage, SectorPart, Told};
+use blk_front::{EntryPart, Front, FrontStage, SectorPart, Told};
 use std::alloc::Global;
 use std::marker::Model;
 use xenbus_state::{FrontBus, FrontBusAsk, FrontNews};
@@ -219,6 +219,42 @@ impl Ends {
         ensures ring { self.new ≡ with_ring self.old self.new.ends.ring }
     {
         self.ring.tell_read(words);
+    }
+
+    /// The words of the entry in hand that it writes next, up to the entry's last one or to the last one of their frame.
+    #[inline(always)]
+    pub fn entry_part(&self, turn: Turn) -> Option<EntryPart>
+        requires { turn ≡ turn_of self.now.ends }
+        ensures value { result ≡ entry_part self.now.ends }
+        ensures asked { IfSome result (AsksEntry ask_as step_as self.now (entry_words self.now.ends)) }
+        ensures within { IfSome result (IsEntryWithin (entry_words self.now.ends)) }
+    {
+        match turn {
+            Turn::Keys => None,
+            _ if self.ring_moves() => self.ring.entry_part(),
+            _ => None,
+        }
+    }
+
+    /// What these are to be, and those after them up to the entry's last one.
+    #[inline(always)]
+    pub fn entry_words(&self) -> &[u32]
+        ensures { result.now ≡ entry_words self.now.ends }
+    {
+        self.ring.entry_words()
+    }
+
+    /// So many of those words were written.
+    #[inline(always)]
+    pub fn tell_entered(&mut self, count: u32)
+        requires part { HasEntered (entry_part self.old.ends) count }
+        requires told { self.old.ends.ring.told ≡ None }
+        ensures ends { self.new ≡ steps_as self.old (all_written count) }
+        ensures each { AreTellableAs self.old (all_written count) }
+        ensures told { self.new.ends.ring.told ≡ None }
+        ensures ring { self.new ≡ with_ring self.old self.new.ends.ring }
+    {
+        self.ring.tell_entered(count);
     }
 
     /// The front is asked to close.

@@ -5,13 +5,13 @@ ghost use Rattle.vbd_front.specs.View.{IsUnkept, start_of, heard};
 ghost use Rattle.vbd_front.specs.Ask.{ask_of, is_waiting, IsAnswer, StaysInMemory};
 ghost use Rattle.vbd_front.specs.Turn.{data_asked};
 ghost use Rattle.blk_front.specs.State.{is_open};
-ghost use Rattle.blk_front.specs.Part.{HasWritten, HasRead, all_written, all_read, AsksEach, IsWithin};
-ghost use Rattle.vbd_front.specs.Part.{sector_part, steps_of, AreTellable};
+ghost use Rattle.blk_front.specs.Part.{HasWritten, HasRead, HasEntered, all_written, all_read, AsksEach, AsksEntry, IsWithin, IsEntryWithin};
+ghost use Rattle.vbd_front.specs.Part.{sector_part, entry_part, entry_words, steps_of, AreTellable};
 ghost use Rattle.vbd_front.specs.Step.{step_of, closes, suspended};
 
 use crate::keeping::KeepingFrontend;
 use blk_base::{Config, Endpoint, FrontAnswer, FrontAsk, OutOfMemory, Refusal, Submission};
-use blk_front::{SectorPart, Told};
+use blk_front::{EntryPart, SectorPart, Told};
 use std::alloc::Global;
 use std::marker::Model;
 use xenbus_state::FrontNews;
@@ -179,6 +179,41 @@ impl Frontend {
         ensures ring { self.new ≡ record self.old { ring = self.new.ring } }
     {
         self.front.tell_read(words);
+    }
+
+    /// The words of the entry in hand that it writes next, as single asks would name them one after another: up to the
+    /// entry's last word, or to the last one of their frame where the entry goes on in the next. `None` where it writes
+    /// no entry, and at the first word of an entry with which a request is begun. Its end of the ring keeps no grant.
+    #[inline(always)]
+    pub fn entry_part(&self) -> Option<EntryPart>
+        ensures value { result ≡ entry_part self.now }
+        ensures asked { IfSome result (AsksEntry ask_of step_of self.now (entry_words self.now)) }
+        ensures within { IfSome result (IsEntryWithin (entry_words self.now)) }
+        ensures unkept { IfSome result (λ part. IsUnkept self.now.ring) }
+    {
+        self.front.entry_part()
+    }
+
+    /// What the words of the entry in hand are to be, from the one that it writes next on up to the entry's last one; none
+    /// where it writes no entry.
+    #[inline(always)]
+    pub fn entry_words(&self) -> &[u32]
+        ensures { result.now ≡ entry_words self.now }
+    {
+        self.front.entry_words()
+    }
+
+    /// So many of the words of the entry that it asks for were written: as many single answers, one after another. Nothing
+    /// is told.
+    pub fn tell_entered(&mut self, count: u32)
+        requires part { HasEntered (entry_part self.old) count }
+        requires told { self.old.ring.told ≡ None }
+        ensures front { self.new ≡ steps_of self.old (all_written count) }
+        ensures each { AreTellable self.old (all_written count) }
+        ensures told { self.new.ring.told ≡ None }
+        ensures ring { self.new ≡ record self.old { ring = self.new.ring } }
+    {
+        self.front.tell_entered(count);
     }
 }
 

@@ -4,15 +4,15 @@ ghost use Rattle.blk_front.specs.Submit.{submit_of, unfinished, sectors_owed};
 ghost use Rattle.vbd_front.specs.Ask.{IsAnswer, StaysInMemory};
 ghost use Rattle.vbd_front.specs.Turn.{data_asked};
 ghost use Rattle.blk_front.specs.State.{is_open};
-ghost use Rattle.blk_front.specs.Part.{HasWritten, HasRead, all_written, all_read, AsksEach, IsWithin};
-ghost use Rattle.vbd_front.specs.Part.{sector_part};
+ghost use Rattle.blk_front.specs.Part.{HasWritten, HasRead, HasEntered, all_written, all_read, AsksEach, AsksEntry, IsWithin, IsEntryWithin};
+ghost use Rattle.vbd_front.specs.Part.{sector_part, entry_part, entry_words};
 ghost use Rattle.vbd_front.specs.Keep.{start_as, ask_as, is_waiting_as, step_as, closes_as, suspended_as, heard_as, with_ring, steps_as, AreTellableAs};
 
 use crate::ends::Ends;
 use crate::key::Key;
 use crate::turn::Turn;
 use blk_base::{Config, Endpoint, FrontAnswer, FrontAsk, OutOfMemory, Refusal, Submission};
-use blk_front::{SectorPart, Told};
+use blk_front::{EntryPart, SectorPart, Told};
 use std::alloc::Global;
 use std::marker::Model;
 use xenbus_state::FrontNews;
@@ -211,6 +211,42 @@ impl KeepingFrontend {
         ensures ring { self.new ≡ with_ring self.old self.new.ends.ring }
     {
         self.ends.tell_read(words);
+        self.turn = self.ends.turn();
+        self.key = Key::of(&self.ends.bus_ask());
+    }
+
+    /// The words of the entry in hand that it writes next, as single asks would name them one after another: up to the
+    /// entry's last word, or to the last one of their frame where the entry goes on in the next. `None` where it writes
+    /// no entry, and at the first word of an entry with which a request is begun.
+    #[inline(always)]
+    pub fn entry_part(&self) -> Option<EntryPart>
+        ensures value { result ≡ entry_part self.now.ends }
+        ensures asked { IfSome result (AsksEntry ask_as step_as self.now (entry_words self.now.ends)) }
+        ensures within { IfSome result (IsEntryWithin (entry_words self.now.ends)) }
+    {
+        self.ends.entry_part(self.turn)
+    }
+
+    /// What the words of the entry in hand are to be, from the one that it writes next on up to the entry's last one; none
+    /// where it writes no entry.
+    #[inline(always)]
+    pub fn entry_words(&self) -> &[u32]
+        ensures { result.now ≡ entry_words self.now.ends }
+    {
+        self.ends.entry_words()
+    }
+
+    /// So many of the words of the entry that it asks for were written: as many single answers, one after another. Nothing
+    /// is told.
+    pub fn tell_entered(&mut self, count: u32)
+        requires part { HasEntered (entry_part self.old.ends) count }
+        requires told { self.old.ends.ring.told ≡ None }
+        ensures front { self.new ≡ steps_as self.old (all_written count) }
+        ensures each { AreTellableAs self.old (all_written count) }
+        ensures told { self.new.ends.ring.told ≡ None }
+        ensures ring { self.new ≡ with_ring self.old self.new.ends.ring }
+    {
+        self.ends.tell_entered(count);
         self.turn = self.ends.turn();
         self.key = Key::of(&self.ends.bus_ask());
     }

@@ -9,7 +9,7 @@ use crate::expected::{holds, same};
 use blk_base::{
     Config, Endpoint, FrontAnswer, FrontAsk, OutOfMemory, Refusal, SectorCount, Submission,
 };
-use blk_front::{Front, FrontState, Offers, SectorPart, Told};
+use blk_front::{EntryPart, Front, FrontState, Offers, SectorPart, Told};
 use std::alloc::Global;
 use std::process::Abort;
 
@@ -41,6 +41,15 @@ impl Memory {
     fn fill(&mut self, frame: u32, first: u32, count: u32, value: u32) {
         for n in 0..count {
             self.write(frame, first.wrapping_add(n), value);
+        }
+    }
+
+    // Writes these words of a frame, the first of them here.
+    fn put(&mut self, frame: u32, first: u32, words: &[u32]) {
+        let mut place = first;
+        for word in words {
+            self.write(frame, place, *word);
+            place = place.wrapping_add(1);
         }
     }
 
@@ -234,6 +243,25 @@ impl Guest {
             Some(part) if part.value.is_none() && count <= part.count => {
                 let words = self.memory.sector(part.frame, part.word);
                 self.front.tell_read(&words[..count as usize]);
+            }
+            _ => holds(rt, false),
+        }
+    }
+
+    /// The words of an entry that it writes next.
+    pub fn entry(&self) -> Option<EntryPart> {
+        self.front.entry_part()
+    }
+
+    /// Writes so many of those words, and says so at once, likewise.
+    pub fn writes_entry(&mut self, rt: &impl Abort, count: u32) {
+        same(rt, self.front.take_told(), None);
+        match self.front.entry_part() {
+            Some(part) if count <= part.count => {
+                let words = self.front.entry_words();
+                self.memory
+                    .put(part.frame, part.word, &words[..count as usize]);
+                self.front.tell_entered(count);
             }
             _ => holds(rt, false),
         }

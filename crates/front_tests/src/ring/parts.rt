@@ -1,7 +1,7 @@
-// Words of a sector that are moved many at once: what comes of them is what comes of single moves.
+// Words of a sector, and of an entry, that are moved many at once: what comes of them is what comes of single moves.
 use super::reads::ANSWERED;
 use super::script::{Ask, Data, EIGHT, News, Step, Work, plays, plays_after};
-use blk_front::SectorPart;
+use blk_front::{EntryPart, SectorPart};
 
 // The first sector of request 1, in the pool's first frame; each word is written to be 7.
 const WRITTEN: SectorPart = SectorPart {
@@ -109,4 +109,42 @@ fn data_that_a_suspend_left_are_read_so_too(rt: HostRuntime) {
         Step::Asks(Ask::Write(2, 0, 0)),
     ];
     plays_after(&rt, rt.alloc(), &ANSWERED, STEPS);
+}
+
+// The first entry of the ring: 28 words from the ring's word 16 on.
+const ENTRY: EntryPart = EntryPart {
+    frame: 2,
+    word: 16,
+    count: 28,
+};
+
+// A WRITE (1) of one segment of device 51712, as request 1 of the grant 24.
+#[test]
+fn the_words_of_an_entry_are_written_one_after_another(rt: HostRuntime) {
+    const STEPS: &[Step<'static>] = &[
+        Step::Connects(19),
+        Step::Sleeps,
+        Step::Entry(None),
+        Step::Takes(Work::Write(0, 1, 7), 1),
+        Step::WritesPart(128),
+        Step::Entry(None),
+        Step::AsksAll(&[Ask::Write(0, 49, 18), Ask::Fence, Ask::Write(0, 48, 5)]),
+        Step::Entry(Some(ENTRY)),
+        Step::WritesEntry(0),
+        Step::WritesEntry(10),
+        Step::Entry(Some(EntryPart {
+            word: 26,
+            count: 18,
+            ..ENTRY
+        })),
+        Step::Asks(Ask::Write(2, 26, 0)),
+        Step::WritesEntry(17),
+        Step::Entry(None),
+        Step::Word(2, 16, 0xca000101),
+        Step::Word(2, 18, 1),
+        Step::Word(2, 22, 24),
+        // the push
+        Step::Asks(Ask::Write(2, 0, 1)),
+    ];
+    plays(&rt, rt.alloc(), &EIGHT, STEPS);
 }

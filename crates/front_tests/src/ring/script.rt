@@ -3,7 +3,7 @@
 use super::guest::Guest;
 use crate::expected::{holds, same};
 use blk_base::{Abi, Config, Refusal, Status};
-use blk_front::{FrontState, Offers, SectorPart, Told};
+use blk_front::{EntryPart, FrontState, Offers, SectorPart, Told};
 use std::alloc::Global;
 use std::process::Abort;
 
@@ -114,6 +114,10 @@ pub enum Step<'a> {
     WritesPart(u32),
     /// So many of them are read at once. What is told then isn't taken.
     ReadsPart(u32),
+    /// The words of an entry that are written next.
+    Entry(Option<EntryPart>),
+    /// So many of them are written at once, and nothing is told.
+    WritesEntry(u32),
     /// A frame has this value at a word.
     Word(u32, u32, u32),
     /// This value is written to a frame's word.
@@ -310,6 +314,11 @@ fn writes_part(rt: &impl Abort, guest: &mut Guest, count: u32) {
     same(rt, guest.take_told(), None);
 }
 
+fn writes_entry(rt: &impl Abort, guest: &mut Guest, count: u32) {
+    guest.writes_entry(rt, count);
+    same(rt, guest.take_told(), None);
+}
+
 fn told_soon(rt: &impl Abort, guest: &mut Guest, wanted: News) {
     for _ in 0..20 {
         let news = one_move(rt, guest);
@@ -387,6 +396,8 @@ fn takes(rt: &impl Abort, guest: &mut Guest, step: &Step) {
         Step::Part(wanted) => same(rt, guest.part(), wanted),
         Step::WritesPart(count) => writes_part(rt, guest, count),
         Step::ReadsPart(count) => guest.reads_part(rt, count),
+        Step::Entry(wanted) => same(rt, guest.entry(), wanted),
+        Step::WritesEntry(count) => writes_entry(rt, guest, count),
         Step::Word(frame, word, value) => same(rt, guest.read(frame, word), value),
         Step::Puts(frame, word, value) => guest.write(frame, word, value),
         Step::Lays(data, frame, count) => lays(guest, data, frame, count),
