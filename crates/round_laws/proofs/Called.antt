@@ -2,15 +2,13 @@
 use Rattle.std.proofs.Common.{◌≡◌, ◌≢◌, ℕ, List, [], ◌∷◌, map, refl, sym, subst}
 use Rattle.std.specs.Prelude.{Option, Some, None, IfSome}
 use Rattle.hypervisor.specs.Hypervisor.{Hypervisor}
-use Rattle.blk_front.specs.declared.sector_part.SectorPart.{SectorPart as FrontPart}
 use Rattle.back_jobs.specs.declared.part.SectorPart.{SectorPart as JobPart}
 use Rattle.back_jobs.specs.Work.{Work}
 use Rattle.blk_back.specs.View.{View}
-use Rattle.vbd_front.specs.Part.{sector_part}
 use Rattle.vbd_back.specs.View.{View as Backend}
 use Rattle.vbd_back.specs.Part.{entry_part}
 use Rattle.vbd_model.specs.World.{World, frontend_of, backend_of}
-use Rattle.round_laws.specs.Movers.{part_of, frame_under, IsOutside, AreApart}
+use Rattle.round_laws.specs.Movers.{FrontWords, front_words, part_of, frame_under, IsOutside, AreApart}
 use Rattle.round_laws.specs.AtOnce.{back_moved}
 use Rattle.round_laws.specs.Calls.{NoneMoves, MoveApart, CallsSayWords, AskForTheirs, JobsMayMove, MayMoveAtOnce}
 use Rattle.round_laws.proofs.BackReads.{HasCopied, stays_busy}
@@ -37,7 +35,7 @@ module _ (h : Hypervisor) (v : View) where
     all_apart works asks.1 apart.1,
   )
 
-  front_outside : (o : Option FrontPart) (works : List Work) → AskForTheirs v works → IfSome o (λ p. NoneMoves h v p.frame (numbers_of works)) → IfSome o (λ p. IsOutside h p.frame works)
+  front_outside : (o : Option FrontWords) (works : List Work) → AskForTheirs v works → IfSome o (λ p. NoneMoves h v p.frame (numbers_of works)) → IfSome o (λ p. IsOutside h p.frame works)
   front_outside None works asks none = tt
   front_outside (Some p) works asks none = none_outside p.frame works asks none
 
@@ -56,8 +54,8 @@ may_move n w front_told back_told say =
         front = say.front;
         jobs = each_goes_on n v say.numbers say.unhalted say.jobs.visited say.jobs.all say.jobs.says;
         ordered = there.0;
-        front_apart = front_outside h v (sector_part (frontend_of w)) v.jobs.works asks
-            (subst (λ (l : List ℕ). IfSome (sector_part (frontend_of w)) (λ p. NoneMoves h v p.frame l)) (sym there.1) say.front_apart);
+        front_apart = front_outside h v (front_words (frontend_of w)) v.jobs.works asks
+            (subst (λ (l : List ℕ). IfSome (front_words (frontend_of w)) (λ p. NoneMoves h v p.frame l)) (sym there.1) say.front_apart);
         back_apart = part_outside h v (entry_part (backend_of w)) v.jobs.works asks
             (subst (λ (l : List ℕ). IfSome (entry_part (backend_of w)) (λ p. NoneMoves h v (frame_under h p) l)) (sym there.1) say.back_apart);
         ends_apart = say.ends_apart;

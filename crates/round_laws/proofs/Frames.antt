@@ -2,16 +2,15 @@
 use Rattle.std.proofs.Common.{◌≡◌, ◌≢◌, ℕ, zero, suc, ◌+◌, ◌<◌, ◌≤◌, Bool, true, false, List, [], ◌∷◌, ◌++◌, take, length, refl, sym, ap, ◌∙◌, arith}
 use Rattle.std.specs.Prelude.{Option, Some, None, IfSome, replicate, slice_index}
 use Rattle.std.specs.List.{AllByRecursion}
-use Rattle.std.proofs.lemmas.List.{replicate_more, length-replicate, length-take-le}
+use Rattle.std.proofs.lemmas.List.{length-take-le}
 use Rattle.xen_pages.specs.Pages.{word_of, with_word, words_of, with_words}
 use Rattle.xen_pages.proofs.Apart.{words_go_on, frames_are_apart}
 use Rattle.hypervisor.specs.Hypervisor.{Hypervisor}
-use Rattle.blk_front.specs.declared.sector_part.SectorPart.{SectorPart as FrontPart}
 use Rattle.back_jobs.specs.declared.part.SectorPart.{SectorPart as JobPart}
 use Rattle.back_jobs.specs.Work.{Work}
 use Rattle.back_jobs.specs.Part.{values_at}
 use Rattle.blk_back.specs.View as back_ring
-use Rattle.round_laws.specs.Movers.{front_writes_to, part_of, frame_under, job_writes_to, job_writes, jobs_write, JobGoesOn, IsOutside}
+use Rattle.round_laws.specs.Movers.{part_of, frame_under, job_writes_to, job_writes, jobs_write, JobGoesOn, IsOutside}
 
 -- words of one frame leave the words of another as they are
 one_word : (pages : List ℕ) (frame word other u : ℕ) (words : List ℕ) → frame ≢ other → word + length words ≤ 1024 → u < 1024 → word_of (with_words pages frame word words) other u ≡ word_of pages other u
@@ -23,15 +22,18 @@ one_word pages frame word other u words apart within short =
 one_past : (pages : List ℕ) (frame word other u value : ℕ) (words : List ℕ) → frame ≢ other → word + length words ≤ 1024 → u < 1024 → with_word (with_words pages frame word words) other u value ≡ with_words (with_word pages other u value) frame word words
 one_past pages frame word other u value words apart within short = (frames_are_apart pages frame word words other u (value ∷ []) apart within (omega arith)).either_order
 
-few_taken : (n : ℕ) (values : List ℕ) → length (take n values) ≤ n
+pub few_taken : (n : ℕ) (values : List ℕ) → length (take n values) ≤ n
 few_taken zero values = omega arith
 few_taken (suc n) [] = omega arith
 few_taken (suc n) (value ∷ values) = let few = few_taken n values in omega arith
 
+pub taken_apart : (n : ℕ) (values pages : List ℕ) (frame word other u : ℕ) → frame ≢ other → word + n ≤ 1024 → u < 1024 → word_of (with_words pages frame word (take n values)) other u ≡ word_of pages other u
+taken_apart n values pages frame word other u apart within short = let few = few_taken n values in one_word pages frame word other u (take n values) apart (omega arith) short
+
 module _ (h : Hypervisor) (n : ℕ) where
   -- what a job's words leave as it is
   part_keeps : (p : JobPart) (writes : Bool) (values pages : List ℕ) (other u : ℕ) → frame_under h p ≢ other → p.word + n ≤ 1024 → u < 1024 → word_of (job_writes_to h p writes values n pages) other u ≡ word_of pages other u
-  part_keeps p true values pages other u apart within short = let few = few_taken n values in one_word pages (frame_under h p) p.word other u (take n values) apart (omega arith) short
+  part_keeps p true values pages other u apart within short = taken_apart n values pages (frame_under h p) p.word other u apart within short
   part_keeps p false values pages other u apart within short = refl
 
   part_past : (p : JobPart) (writes : Bool) (values pages : List ℕ) (other u value : ℕ) → frame_under h p ≢ other → p.word + n ≤ 1024 → u < 1024
@@ -87,24 +89,24 @@ jobs_fit n v (t ∷ works) h goes = (job_fits n v t (part_of t) h goes.0, jobs_f
 pub one_more : (n : ℕ) → n + 1 ≡ suc n
 one_more n = omega arith
 
-pub front_more : (p : FrontPart) (value n : ℕ) (pages : List ℕ) → front_writes_to p (Some value) (suc n) pages ≡ with_word (front_writes_to p (Some value) n pages) p.frame (p.word + n) value
-front_more p value n pages =
-    ap (λ (l : List ℕ). with_words pages p.frame p.word l) (sym (replicate_more n value ∙ ap (λ m. replicate m value) (one_more n)))
-    ∙ ((words_go_on pages p.frame p.word (replicate n value)).writes value
-    ∙ ap (λ k. with_word (with_words pages p.frame p.word (replicate n value)) p.frame (p.word + k) value) (length-replicate n value))
-
 taken_more : (n : ℕ) (values : List ℕ) → n < length values → take (suc n) values ≡ take n values ++ slice_index values n ∷ []
 taken_more n [] within = absurd (omega arith)
 taken_more zero (value ∷ values) within = refl
 taken_more (suc n) (value ∷ values) within = ap (λ (l : List ℕ). value ∷ l) (taken_more n values (omega arith))
 
-pub job_more : (h : Hypervisor) (p : JobPart) (values : List ℕ) (n : ℕ) (pages : List ℕ) → n < length values
-    → job_writes_to h p true values (suc n) pages ≡ with_word (job_writes_to h p true values n pages) (frame_under h p) (p.word + n) (slice_index values n)
-job_more h p values n pages within =
+pub written_more : (n : ℕ) (values pages : List ℕ) (frame word : ℕ) → n < length values
+    → with_words pages frame word (take (suc n) values) ≡ with_word (with_words pages frame word (take n values)) frame (word + n) (slice_index values n)
+written_more n values pages frame word within =
     let taken : length (take n values) ≡ n = length-take-le n values (omega arith) in
-    ap (λ (l : List ℕ). with_words pages (frame_under h p) p.word l) (taken_more n values within)
-    ∙ ((words_go_on pages (frame_under h p) p.word (take n values)).writes (slice_index values n)
-    ∙ ap (λ k. with_word (with_words pages (frame_under h p) p.word (take n values)) (frame_under h p) (p.word + k) (slice_index values n)) taken)
+    ap (λ (l : List ℕ). with_words pages frame word l) (taken_more n values within)
+    ∙ ((words_go_on pages frame word (take n values)).writes (slice_index values n)
+    ∙ ap (λ k. with_word (with_words pages frame word (take n values)) frame (word + k) (slice_index values n)) taken)
+
+-- and each of so many equal words is that one
+pub replicate_at : (count value k : ℕ) → k < count → slice_index (replicate count value) k ≡ value
+replicate_at zero value k within = absurd (omega arith)
+replicate_at (suc count) value zero within = refl
+replicate_at (suc count) value (suc k) within = replicate_at count value k (omega arith)
 
 -- a word more is read
 pub words_more : (pages : List ℕ) (frame word n : ℕ) → words_of pages frame word (suc n) ≡ words_of pages frame word n ++ word_of pages frame (word + n) ∷ []
@@ -113,9 +115,3 @@ words_more pages frame word n = ap (words_of pages frame word) (sym (one_more n)
 pub words_count : (pages : List ℕ) (frame word n : ℕ) → length (words_of pages frame word n) ≡ n
 words_count pages frame word zero = refl
 words_count pages frame word (suc n) = ap suc (words_count pages frame (word + 1) n)
-
--- so many equal words of one frame leave the words of another
-pub words_apart : (pages : List ℕ) (frame word other u n value : ℕ) → frame ≢ other → word + n ≤ 1024 → u < 1024 → word_of (with_words pages frame word (replicate n value)) other u ≡ word_of pages other u
-words_apart pages frame word other u n value apart within short =
-    let counted : length (replicate n value) ≡ n = length-replicate n value in
-    one_word pages frame word other u (replicate n value) apart (omega (arith, counted, within)) short

@@ -30,7 +30,7 @@ use Rattle.vbd_model.specs.Happening.{Happening, JobMoves}
 use Rattle.vbd_model.specs.Kind.{AreEachJobs}
 use Rattle.round_laws.specs.Movers.{part_of, frame_under, job_moved, job_writes_to, job_writes, jobs_write, JobGoesOn, IsOutside, AreApart, AreAbove}
 use Rattle.round_laws.specs.AtOnce.{with_jobs, with_movers, Passes, IsMoveLine}
-use Rattle.round_laws.proofs.Frames.{job_less, Fits, AllFit, job_fits, jobs_fit, job_keeps, jobs_keep, jobs_past, job_more}
+use Rattle.round_laws.proofs.Frames.{job_less, Fits, AllFit, job_fits, jobs_fit, job_keeps, jobs_keep, jobs_past, written_more}
 use Rattle.round_laws.proofs.JobWords.{word_asked, word_answered, IsNext, next_word, IsLike, is_like, unmoved}
 use Rattle.round_laws.proofs.Jobs.{IsBehind, one_behind, held_same, work_there, told_there, asked_there, next_there, next_none}
 use Rattle.round_laws.proofs.Passing.{passes_one, passes_none, passes_on, passes_to}
@@ -150,7 +150,7 @@ module _ (w : World) (f : front.View) (told : w.rings.back.told ≡ None) (runs 
           let answer : Done ≡ word_answered h p p.writes n = ap (λ (b : Bool). word_answered h p b n) (sym way) in
           passes_to (JobMoves u.number Took ∷ []) (at here all) _ _
           (ap (λ (l : List ℕ). at (now ++ job_moved h (suc n) t ∷ rest) l)
-          (jobs_past h n ts (job_writes_to h p true values n pages) (frame_under h p) (p.word + n) (slice_index values n) fits outside short ∙ ap (λ (l : List ℕ). jobs_write h n ts l) (sym (job_more h p values n pages within))))
+          (jobs_past h n ts (job_writes_to h p true values n pages) (frame_under h p) (p.word + n) (slice_index values n) fits outside short ∙ ap (λ (l : List ℕ). jobs_write h n ts l) (sym (written_more n values pages (frame_under h p) p.word within))))
           (acts here (now ++ job_moved h (suc n) t ∷ rest) all u.number _
           (ap (λ (a : BackAsk). back_act (with_pages h all) (JobOf u.number) a Took) asked_so)
           (λ d. subst (λ (a : BackAsk). DiskDoes a Took d d) (sym asked_so) refl)

@@ -6,7 +6,6 @@ use Rattle.blk_base.specs.declared.parts.End.TheVariants as end
 use Rattle.xen_pages.specs.Pages.{word_of}
 use Rattle.hypervisor.specs.Hypervisor.{Hypervisor}
 use Rattle.hypervisor.specs.Act.{has_to_take}
-use Rattle.blk_front.specs.declared.sector_part.SectorPart.{SectorPart as FrontPart}
 use Rattle.blk_front.specs.Submit.{is_wait}
 use Rattle.back_jobs.specs.declared.part.SectorPart.{SectorPart as JobPart}
 use Rattle.back_jobs.specs.Work.{Work, step_of as step_of_job}
@@ -17,7 +16,7 @@ use Rattle.blk_back.specs.View.{RingInfo}
 use Rattle.blk_back.specs.Step.{next_job_of}
 use Rattle.vbd_front.specs.View.{View}
 use Rattle.vbd_front.specs.Ask.{is_waiting}
-use Rattle.vbd_front.specs.Part.{sector_part, steps_of}
+use Rattle.vbd_front.specs.Part.{steps_of}
 use Rattle.vbd_back.specs.View.{View as Backend, both}
 use Rattle.vbd_back.specs.Ask.{is_idle}
 use Rattle.vbd_back.specs.Part.{entry_part, steps_of as back_steps}
@@ -25,10 +24,10 @@ use Rattle.vbd_model.specs.World.{World, frontend_of, backend_of, is_quiet}
 use Rattle.vbd_model.specs.Happening.{Happening, FrontMoves, BackMoves}
 use Rattle.vbd_model.specs.Kind.{AreAllJobs, IsRound, AreRounds, never, round_start}
 use Rattle.vbd_model.proofs.Joining.{rounds_more}
-use Rattle.round_laws.specs.Movers.{BackGoesOn, back_answers, front_answers, front_answers_to, front_writes, front_writes_to, part_of, frame_under, job_moved, job_answers, job_answers_to, job_writes_to, job_writes, jobs_write, FrontGoesOn, JobGoesOn, IsOutside}
+use Rattle.round_laws.specs.Movers.{FrontWords, front_words, BackGoesOn, back_answers, front_answers, front_answers_to, front_writes, front_writes_to, part_of, frame_under, job_moved, job_answers, job_answers_to, job_writes_to, job_writes, jobs_write, FrontGoesOn, JobGoesOn, IsOutside}
 use Rattle.round_laws.specs.AtOnce.{with_jobs, with_back, with_movers, front_moved, moved, AreOfWords, Passes, LeadThere}
 use Rattle.round_laws.specs.Laws.{RoundsLeadThere}
-use Rattle.round_laws.proofs.Frames.{job_less, AllFit, one_more, jobs_fit, jobs_keep, words_apart}
+use Rattle.round_laws.proofs.Frames.{job_less, AllFit, one_more, jobs_fit, jobs_keep, taken_apart}
 use Rattle.round_laws.proofs.FrontWords.{next_word, word_asked}
 use Rattle.round_laws.proofs.FrontReads.{front_passes}
 use Rattle.round_laws.proofs.Passing.{passes_none, passes_on, passes_to}
@@ -38,9 +37,9 @@ use Rattle.round_laws.proofs.Alike.{back_idle_so}
 use Rattle.round_laws.proofs.BackReads.{BackPasses, back_passes, StaysBusy, stays_busy}
 
 -- each that goes on so long goes on for less
-front_less : (n : ℕ) (w : World) (o : Option FrontPart) → FrontGoesOn (suc n) w o → FrontGoesOn n w o
+front_less : (n : ℕ) (w : World) (o : Option FrontWords) → FrontGoesOn (suc n) w o → FrontGoesOn n w o
 front_less n w None goes = goes
-front_less n w (Some p) goes = (let more = goes.0 in omega arith, goes.1, goes.2)
+front_less n w (Some p) goes = (let more = goes.0 in omega arith, goes.1, goes.2, goes.3)
 
 back_less : (n : ℕ) (v : Backend) (h : Hypervisor) (o : Option JobPart) → BackGoesOn (suc n) v h o → BackGoesOn n v h o
 back_less n v h None goes = goes
@@ -56,7 +55,7 @@ less n w is = record {
   back_told = is.back_told;
   unhalted = is.unhalted;
   back = back_less n (backend_of w) w.rings.under (entry_part (backend_of w)) is.back;
-  front = front_less n w (sector_part (frontend_of w)) is.front;
+  front = front_less n w (front_words (frontend_of w)) is.front;
   jobs = jobs_less n w.rings.back w.rings.back.jobs.works is.jobs;
   ordered = is.ordered;
   front_apart = is.front_apart;
@@ -92,15 +91,15 @@ module _ (w : World) where
   at f l pages = with_movers w f l pages
 
   -- the front's words leave other frames as they are
-  front_keeps : (n : ℕ) (o : Option FrontPart) (other u : ℕ) → FrontGoesOn n w o → IfSome o (λ p. other ≢ p.frame) → u < 1024 → word_of (front_writes o n h.pages) other u ≡ word_of h.pages other u
+  front_keeps : (n : ℕ) (o : Option FrontWords) (other u : ℕ) → FrontGoesOn n w o → IfSome o (λ p. other ≢ p.frame) → u < 1024 → word_of (front_writes o n h.pages) other u ≡ word_of h.pages other u
   front_keeps n None other u goes apart short = refl
-  front_keeps n (Some p) other u goes apart short = by_value p.value
+  front_keeps n (Some p) other u goes apart short = by_values p.values
     where
-      by_value : (value : Option ℕ) → word_of (front_writes_to p value n h.pages) other u ≡ word_of h.pages other u
-      by_value (Some value) = words_apart h.pages p.frame p.word other u n value (λ same. apart (sym same)) (let more = goes.0 in let within = goes.1 in omega arith) short
-      by_value None = refl
+      by_values : (o : Option (List ℕ)) → word_of (front_writes_to p o n h.pages) other u ≡ word_of h.pages other u
+      by_values (Some values) = taken_apart n values h.pages p.frame p.word other u (λ same. apart (sym same)) (let more = goes.0 in let within = goes.1 in omega arith) short
+      by_values None = refl
 
-  agree_at_first : (n : ℕ) (o : Option FrontPart) (l : List Work) → FrontGoesOn n w o → IfSome o (λ p. IsOutside h p.frame l) → AllAgree h (front_writes o n h.pages) l
+  agree_at_first : (n : ℕ) (o : Option FrontWords) (l : List Work) → FrontGoesOn n w o → IfSome o (λ p. IsOutside h p.frame l) → AllAgree h (front_writes o n h.pages) l
   agree_at_first n o [] goes outside = tt
   agree_at_first n None (t ∷ l) goes outside = (each (part_of t), agree_at_first n None l goes tt)
     where
@@ -114,13 +113,13 @@ module _ (w : World) where
       each (Some q) apart = λ u short. front_keeps n (Some p) (frame_under h q) u goes apart short
 
   -- and so do theirs and the jobs' with the ring's frame
-  ring_agrees : (n m : ℕ) (o : Option FrontPart) (e : Option JobPart) → FrontGoesOn m w o → AllFit h n works → IfSome e (λ q. IsOutside h (frame_under h q) works) → IfSome e (λ q. IfSome o (λ p. p.frame ≢ frame_under h q))
+  ring_agrees : (n m : ℕ) (o : Option FrontWords) (e : Option JobPart) → FrontGoesOn m w o → AllFit h n works → IfSome e (λ q. IsOutside h (frame_under h q) works) → IfSome e (λ q. IfSome o (λ p. p.frame ≢ frame_under h q))
       → Agrees h (jobs_write h n works (front_writes o m h.pages)) e
   ring_agrees n m o None goes fits outside apart = tt
   ring_agrees n m o (Some q) goes fits outside apart = λ u short.
       jobs_keep h n works (front_writes o m h.pages) (frame_under h q) u fits outside short ∙ front_keeps m o (frame_under h q) u goes (other_way o apart) short
     where
-      other_way : (x : Option FrontPart) → IfSome x (λ p. p.frame ≢ frame_under h q) → IfSome x (λ p. frame_under h q ≢ p.frame)
+      other_way : (x : Option FrontWords) → IfSome x (λ p. p.frame ≢ frame_under h q) → IfSome x (λ p. frame_under h q ≢ p.frame)
       other_way None differ = tt
       other_way (Some p) differ = λ same. differ (sym same)
 
@@ -132,7 +131,7 @@ module _ (w : World) where
 
   round_passes : (n : ℕ) → AreOfWords (suc n) w → RoundPasses n
   round_passes n is =
-      let o : Option FrontPart = sector_part v in
+      let o : Option FrontWords = front_words v in
       let e : Option JobPart = entry_part (backend_of w) in
       let l : List Work = map (job_moved h n) works in
       let goes = jobs_less n w.rings.back works is.jobs in
@@ -169,29 +168,29 @@ module _ (w : World) where
       copying ring stage = with_back w (record w.rings.back { ring = ring; stage = stage })
 
   -- all is quiet as it was
-  front_asks_on : (n : ℕ) (p : FrontPart) → sector_part v ≡ Some p → FrontGoesOn n w (Some p) → w.rings.front.told ≡ None → is_waiting (frontend_of (at (steps_of v (front_answers_to p p.value h.pages n)) works h.pages)) ≡ false
+  front_asks_on : (n : ℕ) (p : FrontWords) → front_words v ≡ Some p → FrontGoesOn n w (Some p) → w.rings.front.told ≡ None → is_waiting (frontend_of (at (steps_of v (front_answers_to p p.values h.pages n)) works h.pages)) ≡ false
   front_asks_on n p is goes quiet =
-      let next = next_word h.pages v p is goes.2 quiet n goes.0 in
-      let f : View = steps_of v (front_answers_to p p.value h.pages n) in
-      ap is_waiting (ap (λ x. record { ring = f.ring; bus = f.bus; news = x }) (sym next.news)) ∙ (ap is_wait next.asks ∙ by_value p.value)
+      let next = next_word v goes.3 quiet h.pages p is n goes.0 in
+      let f : View = steps_of v (front_answers_to p p.values h.pages n) in
+      ap is_waiting (ap (λ x. record { ring = f.ring; bus = f.bus; news = x }) (sym next.news)) ∙ (ap is_wait next.asks ∙ by_values p.values)
     where
-      by_value : (value : Option ℕ) → is_wait (word_asked p value n) ≡ false
-      by_value (Some value) = refl
-      by_value None = refl
+      by_values : (o : Option (List ℕ)) → is_wait (word_asked p o n) ≡ false
+      by_values (Some values) = refl
+      by_values None = refl
 
-  front_zero : (p : FrontPart) (value : Option ℕ) → steps_of v (front_answers_to p value h.pages 0) ≡ v
-  front_zero p (Some value) = refl
+  front_zero : (p : FrontWords) (o : Option (List ℕ)) → steps_of v (front_answers_to p o h.pages 0) ≡ v
+  front_zero p (Some values) = refl
   front_zero p None = refl
 
-  front_zero_writes : (p : FrontPart) (value : Option ℕ) → front_writes_to p value 0 h.pages ≡ h.pages
-  front_zero_writes p (Some value) = refl
+  front_zero_writes : (p : FrontWords) (o : Option (List ℕ)) → front_writes_to p o 0 h.pages ≡ h.pages
+  front_zero_writes p (Some values) = refl
   front_zero_writes p None = refl
 
-  front_quiet : (n : ℕ) (o : Option FrontPart) → sector_part v ≡ o → FrontGoesOn n w o → w.rings.front.told ≡ None → is_waiting (frontend_of (at (steps_of v (front_answers o h.pages n)) works h.pages)) ≡ is_waiting v
+  front_quiet : (n : ℕ) (o : Option FrontWords) → front_words v ≡ o → FrontGoesOn n w o → w.rings.front.told ≡ None → is_waiting (frontend_of (at (steps_of v (front_answers o h.pages n)) works h.pages)) ≡ is_waiting v
   front_quiet n None is goes quiet = refl
   front_quiet n (Some p) is goes quiet =
       front_asks_on n p is goes quiet
-      ∙ sym (ap (λ (f : View). is_waiting (frontend_of (at f works h.pages))) (sym (front_zero p p.value)) ∙ front_asks_on 0 p is (let more = goes.0 in omega arith, goes.1, goes.2) quiet)
+      ∙ sym (ap (λ (f : View). is_waiting (frontend_of (at f works h.pages))) (sym (front_zero p p.values)) ∙ front_asks_on 0 p is (let more = goes.0 in omega arith, goes.1, goes.2, goes.3) quiet)
 
   back_quiet : (n : ℕ) → AreOfWords n w → is_idle (backend_of (moved n w)) ≡ is_idle (backend_of w)
   back_quiet n is =
@@ -201,21 +200,21 @@ module _ (w : World) where
 
   quiet_so : (n : ℕ) → AreOfWords n w → is_quiet (moved n w) ≡ is_quiet w
   quiet_so n is =
-      ap (λ (b : Bool). b && is_idle (backend_of (moved n w)) && not (has_to_take h end.Front) && not (has_to_take h end.Back)) (front_quiet n (sector_part v) refl is.front is.front_told)
+      ap (λ (b : Bool). b && is_idle (backend_of (moved n w)) && not (has_to_take h end.Front) && not (has_to_take h end.Back)) (front_quiet n (front_words v) refl is.front is.front_told)
       ∙ ap (λ (b : Bool). is_waiting v && b && not (has_to_take h end.Front) && not (has_to_take h end.Back)) (back_quiet n is)
 
   -- so many rounds
-  moved_none : (o : Option FrontPart) (l : List Work) → l ≡ works → at (steps_of v (front_answers o h.pages 0)) l (jobs_write h 0 works (front_writes o 0 h.pages)) ≡ w
+  moved_none : (o : Option FrontWords) (l : List Work) → l ≡ works → at (steps_of v (front_answers o h.pages 0)) l (jobs_write h 0 works (front_writes o 0 h.pages)) ≡ w
   moved_none o l same =
       ap (λ (x : List Work). at (steps_of v (front_answers o h.pages 0)) x (jobs_write h 0 works (front_writes o 0 h.pages))) same
       ∙ (ap (at (steps_of v (front_answers o h.pages 0)) works) (jobs_none h works (front_writes o 0 h.pages)) ∙ by_part o)
     where
-      by_part : (x : Option FrontPart) → at (steps_of v (front_answers x h.pages 0)) works (front_writes x 0 h.pages) ≡ w
+      by_part : (x : Option FrontWords) → at (steps_of v (front_answers x h.pages 0)) works (front_writes x 0 h.pages) ≡ w
       by_part None = refl
-      by_part (Some p) = ap (λ (f : View). at f works (front_writes_to p p.value 0 h.pages)) (front_zero p p.value) ∙ ap (at v works) (front_zero_writes p p.value)
+      by_part (Some p) = ap (λ (f : View). at f works (front_writes_to p p.values 0 h.pages)) (front_zero p p.values) ∙ ap (at v works) (front_zero_writes p p.values)
 
-  back_none : (o : Option JobPart) → with_movers (with_back w (let b : Backend = back_steps (backend_of w) (back_answers h o 0) in b.ring)) (front_moved 0 w) (map (job_moved h 0) works) (jobs_write h 0 works (front_writes (sector_part v) 0 h.pages))
-      ≡ at (front_moved 0 w) (map (job_moved h 0) works) (jobs_write h 0 works (front_writes (sector_part v) 0 h.pages))
+  back_none : (o : Option JobPart) → with_movers (with_back w (let b : Backend = back_steps (backend_of w) (back_answers h o 0) in b.ring)) (front_moved 0 w) (map (job_moved h 0) works) (jobs_write h 0 works (front_writes (front_words v) 0 h.pages))
+      ≡ at (front_moved 0 w) (map (job_moved h 0) works) (jobs_write h 0 works (front_writes (front_words v) 0 h.pages))
   back_none None = refl
   back_none (Some p) = refl
 
@@ -240,7 +239,7 @@ module _ (w : World) where
     rounds = refl;
     unquiet = λ busy. refl;
     still_quiet = quiet_so 0 is;
-    passes = passes_none w (moved 0 w) (sym (back_none (entry_part (backend_of w)) ∙ moved_none (sector_part v) (map (job_moved h 0) works) (jobs_zero works)));
+    passes = passes_none w (moved 0 w) (sym (back_none (entry_part (backend_of w)) ∙ moved_none (front_words v) (map (job_moved h 0) works) (jobs_zero works)));
   }
   lead (suc n) is =
       let before : AreOfWords n w = less n w is in

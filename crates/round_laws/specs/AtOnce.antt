@@ -1,4 +1,4 @@
--- Rounds of nothing but words of sectors and of an entry: the machine after so many of them, given outright.
+-- Rounds of nothing but words of sectors and of entries: the machine after so many of them, given outright.
 use Rattle.std.specs.Prelude.{◌≡◌, ◌≢◌, ℕ, ◌*◌, false, List, map, None, IfSome}
 use Rattle.std.specs.List.{AllByRecursion}
 use Rattle.blk_io.specs.Disk.{DiskSeen}
@@ -10,14 +10,14 @@ use Rattle.hypervisor.specs.Act.{with_pages}
 use Rattle.back_jobs.specs.Work.{Work}
 use Rattle.blk_back.specs.View as back_ring
 use Rattle.vbd_front.specs.View as front
-use Rattle.vbd_front.specs.Part.{sector_part, steps_of}
+use Rattle.vbd_front.specs.Part.{steps_of}
 use Rattle.vbd_back.specs.View as back
 use Rattle.vbd_back.specs.Part.{entry_part, steps_of as back_steps}
 use Rattle.vbd_model.specs.World.{World, frontend_of, backend_of, is_quiet}
 use Rattle.vbd_model.specs.Happening.{Happening, after, lines_of, DiskRuns}
 use Rattle.vbd_model.specs.Kind.{AreRounds, never}
 use Rattle.vbd_model.specs.Leads.{Leads, Keeps, moment}
-use Rattle.round_laws.specs.Movers.{front_answers, front_writes, back_answers, part_of, frame_under, job_moved, jobs_write, FrontGoesOn, BackGoesOn, JobGoesOn, IsOutside, AreApart, AreAbove}
+use Rattle.round_laws.specs.Movers.{front_words, front_answers, front_writes, back_answers, part_of, frame_under, job_moved, jobs_write, FrontGoesOn, BackGoesOn, JobGoesOn, IsOutside, AreApart, AreAbove}
 
 -- the machine with this front, these jobs and this memory; all else stays
 abbrev pub with_jobs : back_ring.View → List Work → back_ring.View
@@ -32,7 +32,7 @@ with_movers w f works pages = record {
 
 -- the front after n of its words
 abbrev pub front_moved : ℕ → World → front.View
-front_moved n w = steps_of (frontend_of w) (front_answers (sector_part (frontend_of w)) w.rings.under.pages n)
+front_moved n w = steps_of (frontend_of w) (front_answers (front_words (frontend_of w)) w.rings.under.pages n)
 
 -- the back after n words of the entry that it copies, and the machine with it
 abbrev pub back_moved : ℕ → World → back.View
@@ -45,20 +45,20 @@ with_back w b = record w { rings = record w.rings { back = b } }
 abbrev pub moved : ℕ → World → World
 moved n w =
     let h : Hypervisor = w.rings.under in
-    with_movers (with_back w (let b : back.View = back_moved n w in b.ring)) (front_moved n w) (map (job_moved h n) w.rings.back.jobs.works) (jobs_write h n w.rings.back.jobs.works (front_writes (sector_part (frontend_of w)) n h.pages))
+    with_movers (with_back w (let b : back.View = back_moved n w in b.ring)) (front_moved n w) (map (job_moved h n) w.rings.back.jobs.works) (jobs_write h n w.rings.back.jobs.works (front_writes (front_words (frontend_of w)) n h.pages))
 
--- n rounds move nothing but words: the front and each job go on so long in their sectors, or wait, and the back in the entry that it copies; the jobs are in order of number, and the frames of all are different; and nothing is left to tell
+-- n rounds move nothing but words: the front goes on so long in its sector or in the entry that it writes, the back in the entry that it copies, and each job in its sector, or it waits; the jobs are in order of number, and the frames of all are different; and nothing is left to tell
 pub record AreOfWords (n : ℕ) (w : World) : Type 0 where
   pub front_told : w.rings.front.told ≡ None
   pub back_told : w.rings.back.told ≡ None
   pub unhalted : w.rings.back.halted ≡ None
   pub back : BackGoesOn n (backend_of w) w.rings.under (entry_part (backend_of w))
-  pub front : FrontGoesOn n w (sector_part (frontend_of w))
+  pub front : FrontGoesOn n w (front_words (frontend_of w))
   pub jobs : AllByRecursion (λ (t : Work). JobGoesOn n w.rings.back t (part_of t)) w.rings.back.jobs.works
   pub ordered : AreAbove 0 w.rings.back.jobs.works
-  pub front_apart : IfSome (sector_part (frontend_of w)) (λ p. IsOutside w.rings.under p.frame w.rings.back.jobs.works)
+  pub front_apart : IfSome (front_words (frontend_of w)) (λ p. IsOutside w.rings.under p.frame w.rings.back.jobs.works)
   pub back_apart : IfSome (entry_part (backend_of w)) (λ p. IsOutside w.rings.under (frame_under w.rings.under p) w.rings.back.jobs.works)
-  pub ends_apart : IfSome (entry_part (backend_of w)) (λ p. IfSome (sector_part (frontend_of w)) (λ q. q.frame ≢ frame_under w.rings.under p))
+  pub ends_apart : IfSome (entry_part (backend_of w)) (λ p. IfSome (front_words (frontend_of w)) (λ q. q.frame ≢ frame_under w.rings.under p))
   pub jobs_apart : AreApart w.rings.under w.rings.back.jobs.works
 
 -- a line that shows a move

@@ -5,10 +5,9 @@ use Rattle.hypervisor.specs.Hypervisor.{Hypervisor}
 use Rattle.back_jobs.specs.Work.{Work}
 use Rattle.blk_back.specs.View.{View}
 use Rattle.blk_back.specs.Part.{job_part}
-use Rattle.vbd_front.specs.Part.{sector_part}
 use Rattle.vbd_back.specs.Part.{entry_part}
 use Rattle.vbd_model.specs.World.{World, frontend_of, backend_of}
-use Rattle.round_laws.specs.Movers.{part_of, frame_under, FrontGoesOn, BackGoesOn, JobGoesOn, AreApart, AreAbove, AreVisited, CallsSay}
+use Rattle.round_laws.specs.Movers.{front_words, part_of, frame_under, FrontGoesOn, BackGoesOn, JobGoesOn, AreApart, AreAbove, AreVisited, CallsSay}
 use Rattle.round_laws.specs.AtOnce.{AreOfWords}
 
 -- none of the jobs of these numbers moves words of this frame
@@ -31,12 +30,12 @@ pub record AllComeAndGoOn (n : ℕ) (h : Hypervisor) (v : View) (numbers : List 
 pub record CallsSayWords (n : ℕ) (w : World) : Type 0 where
   pub unhalted : w.rings.back.halted ≡ None
   pub back : BackGoesOn n (backend_of w) w.rings.under (entry_part (backend_of w))
-  pub front : FrontGoesOn n w (sector_part (frontend_of w))
+  pub front : FrontGoesOn n w (front_words (frontend_of w))
   pub numbers : List ℕ
   pub jobs : AllComeAndGoOn n w.rings.under w.rings.back numbers
-  pub front_apart : IfSome (sector_part (frontend_of w)) (λ p. NoneMoves w.rings.under w.rings.back p.frame numbers)
+  pub front_apart : IfSome (front_words (frontend_of w)) (λ p. NoneMoves w.rings.under w.rings.back p.frame numbers)
   pub back_apart : IfSome (entry_part (backend_of w)) (λ p. NoneMoves w.rings.under w.rings.back (frame_under w.rings.under p) numbers)
-  pub ends_apart : IfSome (entry_part (backend_of w)) (λ p. IfSome (sector_part (frontend_of w)) (λ q. q.frame ≢ frame_under w.rings.under p))
+  pub ends_apart : IfSome (entry_part (backend_of w)) (λ p. IfSome (front_words (frontend_of w)) (λ q. q.frame ≢ frame_under w.rings.under p))
 
 -- each of these jobs asks for the words of the sector that it is in
 abbrev pub AskForTheirs : View → List Work → Type 0

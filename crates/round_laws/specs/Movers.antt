@@ -1,5 +1,5 @@
--- Those that move the words of a sector, one in each round: the front and the jobs; and the back, which copies those of an entry. What each is answered to so many words, and which of them it writes.
-use Rattle.std.specs.Prelude.{◌≡◌, ◌≢◌, ℕ, ◌+◌, ◌<◌, ◌≤◌, Bool, true, false, List, [], ◌∷◌, length, take, replicate, Option, Some, None, IfSome}
+-- Those that move the words of a sector or of an entry, one in each round: the front and the jobs; and the back, which copies an entry. What each is answered to so many words, and which of them it writes.
+use Rattle.std.specs.Prelude.{◌≡◌, ◌≢◌, ℕ, ◌+◌, ◌<◌, ◌≤◌, Bool, true, false, List, [], ◌∷◌, length, take, replicate, Option, Some, None, IfSome, option_map}
 use Rattle.std.specs.List.{AllByRecursion}
 use Rattle.blk_base.specs.declared.ask.FrontAnswer.{FrontAnswer}
 use Rattle.blk_base.specs.declared.ask.BackAnswer.{BackAnswer}
@@ -9,6 +9,7 @@ use Rattle.xen_pages.specs.Pages.{words_of, with_words}
 use Rattle.grant_table.specs.Table.{frame_of}
 use Rattle.hypervisor.specs.Hypervisor.{Hypervisor}
 use Rattle.hypervisor.specs.Act.{has_to_take}
+use Rattle.blk_front.specs.declared.entry_part.EntryPart.{EntryPart}
 use Rattle.blk_front.specs.declared.sector_part.SectorPart.{SectorPart as FrontPart}
 use Rattle.blk_front.specs.Part.{all_written, all_read}
 use Rattle.back_jobs.specs.declared.part.SectorPart.{SectorPart as JobPart}
@@ -18,29 +19,55 @@ use Rattle.blk_back.specs.View as back_ring
 use Rattle.blk_back.specs.Keeping.{KeepsNone}
 use Rattle.blk_back.specs.Step.{job_ask_of, next_job_of}
 use Rattle.blk_back.specs.Part.{job_values}
+use Rattle.vbd_front.specs.View as front
 use Rattle.vbd_front.specs.View.{IsUnkept}
 use Rattle.vbd_front.specs.Ask.{is_waiting}
+use Rattle.vbd_front.specs.Part.{sector_part, entry_part, entry_words}
 use Rattle.vbd_back.specs.Ask.{is_waiting as is_back_waiting}
 use Rattle.vbd_back.specs.View as back
 use Rattle.vbd_model.specs.World.{World, frontend_of}
 
--- the front is answered what memory holds of the words that it reads, or that they are written
-abbrev pub front_answers_to : FrontPart → Option ℕ → (pages : List ℕ) → (n : ℕ) → List FrontAnswer
-front_answers_to p (Some value) pages n = all_written n
+-- words of one frame that the front moves one after another: the frame, the first of them in it, and how many; and what each is to be where they are written
+pub record FrontWords : Type 0 where
+  pub frame : ℕ
+  pub word : ℕ
+  pub count : ℕ
+  pub values : Option (List ℕ)
+
+-- those of a sector, all of one value where they are written
+abbrev pub in_sector : FrontPart → FrontWords
+in_sector p = record { frame = p.frame; word = p.word; count = p.count; values = option_map (replicate p.count) p.value }
+
+-- those of an entry, which is written
+abbrev pub in_entry : EntryPart → (values : List ℕ) → FrontWords
+in_entry e values = record { frame = e.frame; word = e.word; count = e.count; values = Some values }
+
+abbrev pub words_in : Option FrontPart → Option EntryPart → (values : List ℕ) → Option FrontWords
+words_in (Some p) e values = Some (in_sector p)
+words_in None (Some e) values = Some (in_entry e values)
+words_in None None values = None
+
+-- the words that the front moves
+abbrev pub front_words : front.View → Option FrontWords
+front_words f = words_in (sector_part f) (entry_part f) (entry_words f)
+
+-- it is answered what memory holds of the words that it reads, or that they are written
+abbrev pub front_answers_to : FrontWords → Option (List ℕ) → (pages : List ℕ) → (n : ℕ) → List FrontAnswer
+front_answers_to p (Some values) pages n = all_written n
 front_answers_to p None pages n = all_read (words_of pages p.frame p.word n)
 
-abbrev pub front_answers : Option FrontPart → (pages : List ℕ) → (n : ℕ) → List FrontAnswer
+abbrev pub front_answers : Option FrontWords → (pages : List ℕ) → (n : ℕ) → List FrontAnswer
 front_answers None pages n = []
-front_answers (Some p) pages n = front_answers_to p p.value pages n
+front_answers (Some p) pages n = front_answers_to p p.values pages n
 
 -- and this is memory with those that it writes
-abbrev pub front_writes_to : FrontPart → Option ℕ → (n : ℕ) → List ℕ → List ℕ
-front_writes_to p (Some value) n pages = with_words pages p.frame p.word (replicate n value)
+abbrev pub front_writes_to : FrontWords → Option (List ℕ) → (n : ℕ) → List ℕ → List ℕ
+front_writes_to p (Some values) n pages = with_words pages p.frame p.word (take n values)
 front_writes_to p None n pages = pages
 
-abbrev pub front_writes : Option FrontPart → (n : ℕ) → List ℕ → List ℕ
+abbrev pub front_writes : Option FrontWords → (n : ℕ) → List ℕ → List ℕ
 front_writes None n pages = pages
-front_writes (Some p) n pages = front_writes_to p p.value n pages
+front_writes (Some p) n pages = front_writes_to p p.values n pages
 
 -- the words that a job moves, and the frame that they are of
 abbrev pub part_of : Work → Option JobPart
@@ -86,9 +113,9 @@ abbrev pub BackGoesOn : ℕ → back.View → Hypervisor → Option JobPart → 
 BackGoesOn n v h (Some p) = (n < p.count) × (p.word + p.count ≤ 1024) × KeepsNone v.ring
 BackGoesOn n v h None = (is_back_waiting v ≡ true) × (has_to_take h end.Back ≡ false)
 
--- the front is in the middle of a sector's words with more than n left, and keeps no grants; or it waits, and neither an event nor a watch is pending there
-abbrev pub FrontGoesOn : ℕ → World → Option FrontPart → Type 0
-FrontGoesOn n w (Some p) = (n < p.count) × (p.word + p.count ≤ 1024) × IsUnkept w.rings.front
+-- the front is in the middle of a sector's words or of an entry's with more than n left, has those that it is to write, and keeps no grants; or it waits, and neither an event nor a watch is pending there
+abbrev pub FrontGoesOn : ℕ → World → Option FrontWords → Type 0
+FrontGoesOn n w (Some p) = (n < p.count) × (p.word + p.count ≤ 1024) × IfSome p.values (λ values. p.count ≤ length values) × IsUnkept w.rings.front
 FrontGoesOn n w None = (is_waiting (frontend_of w) ≡ true) × (has_to_take w.rings.under end.Front ≡ false)
 
 -- a job is in the middle of a sector's words with more than n left, and has those that it is to write; or it waits

@@ -1,14 +1,14 @@
-//! Rounds of words of sectors and of an entry lead where the words of both ends and of all jobs at once
+//! Rounds of words of sectors and of entries lead where the words of both ends and of all jobs at once
 //! lead.
 #![tactic(auto)]
 
 ghost use Rattle.round_laws.specs.Laws.{RoundsLeadThere, RoundsGoUnseen, EachIsVisited, EachGoesOn, TellsAtOnce};
 
-/// Where the front is in the middle of a sector's words or waits, each job is too, the back is in the
-/// middle of an entry's or waits, and they move words of different frames, so many rounds lead where so
-/// many words of both ends and of each job at once lead: each reads what memory held at first. Nothing is
-/// told, moves alone are shown, and no disk is called; and where not all was quiet at first it isn't in
-/// between.
+/// Where the front is in the middle of a sector's words or of an entry's, or waits, each job is in the
+/// middle of a sector's or waits, the back is in the middle of an entry's or waits, and they move words of
+/// different frames, so many rounds lead where so many words of both ends and of each job at once lead:
+/// each reads what memory held at first. Nothing is told, moves alone are shown, and no disk is called; and
+/// where not all was quiet at first it isn't in between.
 pub fn rounds_of_words_lead_where_all_words_at_once_lead()
     ensures { RoundsLeadThere }
 {}

@@ -6,11 +6,10 @@ use Rattle.schedule_text.specs.declared.line.Detail.TheVariants.{Lines}
 use Rattle.schedule_text.specs.Recorder.{RecorderSeen}
 use Rattle.hypervisor.specs.Hypervisor.{Hypervisor}
 use Rattle.hypervisor.specs.Act.{with_pages}
-use Rattle.blk_front.specs.declared.sector_part.SectorPart.{SectorPart as FrontPart}
 use Rattle.xenbus_state.specs.declared.front.FrontNews.{FrontNews}
 use Rattle.xenbus_state.specs.BackView.{BackView}
 use Rattle.vbd_front.specs.View as front
-use Rattle.vbd_front.specs.Part.{sector_part, steps_of}
+use Rattle.vbd_front.specs.Part.{steps_of}
 use Rattle.back_jobs.specs.declared.part.SectorPart.{SectorPart as JobPart}
 use Rattle.vbd_back.specs.View.{View, both}
 use Rattle.vbd_back.specs.Part.{entry_part, steps_of as back_steps}
@@ -18,7 +17,7 @@ use Rattle.vbd_model.specs.World.{World, frontend_of}
 use Rattle.vbd_model.specs.Fit.{IsFit}
 use Rattle.vbd_model.specs.Leads.{Moment, Keeps, moment}
 use Rattle.vbd_laws.proofs.Fit.{fit_after}
-use Rattle.round_laws.specs.Movers.{front_answers, front_writes, back_answers, job_moved, jobs_write, FrontGoesOn, BackGoesOn}
+use Rattle.round_laws.specs.Movers.{FrontWords, front_words, front_answers, front_writes, back_answers, job_moved, jobs_write, FrontGoesOn, BackGoesOn}
 use Rattle.round_laws.specs.AtOnce.{with_jobs, back_moved, moved, GoUnseen}
 use Rattle.round_laws.specs.Calls.{MayMoveAtOnce}
 use Rattle.round_laws.proofs.BackReads.{HasCopied, stays_busy}
@@ -38,10 +37,10 @@ pub heard_so : (f : front.View) → HasHeard f → f ≡ record { ring = f.ring;
 heard_so f heard = ap (λ (news : Option FrontNews). record { ring = f.ring; bus = f.bus; news = news }) heard
 
 -- it has as many words left
-pub front_few : (n : ℕ) (f : front.View) (b : View) (u : Hypervisor) → HasHeard f → MayMoveAtOnce n (world_of f b u) → IfSome (sector_part f) (λ p. n ≤ p.count)
-front_few n f b u heard may = subst (λ (g : front.View). IfSome (sector_part g) (λ p. n ≤ p.count)) (sym (heard_so f heard)) (few (sector_part (frontend_of (world_of f b u))) may.words.front)
+pub front_few : (n : ℕ) (f : front.View) (b : View) (u : Hypervisor) → HasHeard f → MayMoveAtOnce n (world_of f b u) → IfSome (front_words f) (λ p. n ≤ p.count)
+front_few n f b u heard may = subst (λ (g : front.View). IfSome (front_words g) (λ p. n ≤ p.count)) (sym (heard_so f heard)) (few (front_words (frontend_of (world_of f b u))) may.words.front)
   where
-    few : (o : Option FrontPart) → FrontGoesOn n (world_of f b u) o → IfSome o (λ p. n ≤ p.count)
+    few : (o : Option FrontWords) → FrontGoesOn n (world_of f b u) o → IfSome o (λ p. n ≤ p.count)
     few None goes = tt
     few (Some p) goes = let less = goes.0 in omega arith
 
@@ -56,7 +55,7 @@ back_few n f b u may = few (entry_part b) may.words.back
 -- the calls for the words of the back, for those of all jobs, and for those of the front, lead where the rounds lead
 pub moved_so : (n : ℕ) (f g : front.View) (b m c : View) (u t x : Hypervisor) → HasHeard f → MayMoveAtOnce n (world_of f b u) → m ≡ back_steps b (back_answers u (entry_part b) n)
     → c ≡ both (with_jobs m.ring (map (job_moved u n) m.ring.jobs.works)) m.bus → t ≡ with_pages u (jobs_write u n m.ring.jobs.works u.pages)
-    → g ≡ steps_of f (front_answers (sector_part f) t.pages n) → x ≡ with_pages t (front_writes (sector_part f) n t.pages) → world_of g c x ≡ moved n (world_of f b u)
+    → g ≡ steps_of f (front_answers (front_words f) t.pages n) → x ≡ with_pages t (front_writes (front_words f) n t.pages) → world_of g c x ≡ moved n (world_of f b u)
 moved_so n f g b m c u t x heard may copied jobs written stepped wrote =
     let w : World = world_of f b u in
     let same : f ≡ frontend_of w = heard_so f heard in
@@ -67,8 +66,8 @@ moved_so n f g b m c u t x heard may copied jobs written stepped wrote =
       under = written ∙ ap (λ (v : View). with_pages u (jobs_write u n v.ring.jobs.works u.pages)) copied;
     } in
     ap (λ (y : BackView). record { rings = record { front = g.ring; back = c.ring; under = x }; front = g.bus; back = y }) bus
-    ∙ all_at_once n w g c.ring t x may all (stepped ∙ ap (λ (y : front.View). steps_of y (front_answers (sector_part y) t.pages n)) same)
-    (wrote ∙ ap (λ (y : front.View). with_pages t (front_writes (sector_part y) n t.pages)) same)
+    ∙ all_at_once n w g c.ring t x may all (stepped ∙ ap (λ (y : front.View). steps_of y (front_answers (front_words y) t.pages n)) same)
+    (wrote ∙ ap (λ (y : front.View). with_pages t (front_writes (front_words y) n t.pages)) same)
 
 -- so many rounds went by
 keeps_more : (n : ℕ) (a b : Moment) → Keeps (40 * n) a b → Keeps (42 * n) a b

@@ -7,24 +7,18 @@ use Rattle.blk_base.specs.declared.ask.BackAsk.TheVariants.{Wait}
 use Rattle.blk_base.specs.declared.parts.End.TheVariants as end
 use Rattle.hypervisor.specs.Hypervisor.{Hypervisor}
 use Rattle.hypervisor.specs.Act.{has_to_take}
-use Rattle.blk_front.specs.declared.sector_part.SectorPart.{SectorPart as FrontPart}
-use Rattle.blk_front.specs.Part.{IsWithin}
 use Rattle.back_jobs.specs.declared.part.SectorPart.{SectorPart as JobPart}
 use Rattle.back_jobs.specs.Part.{IsWithinPage}
 use Rattle.blk_back.specs.View.{View}
 use Rattle.blk_back.specs.Step.{job_ask_of, next_job_of}
 use Rattle.blk_back.specs.Part.{job_part, job_values}
-use Rattle.vbd_front.specs.View as front
-use Rattle.vbd_front.specs.View.{IsUnkept}
-use Rattle.vbd_front.specs.Ask as front_asks
-use Rattle.vbd_front.specs.Part.{sector_part}
 use Rattle.blk_back.specs.Keeping.{KeepsNone}
 use Rattle.vbd_back.specs.View.{View as Backend}
 use Rattle.vbd_back.specs.Part.{entry_part}
 use Rattle.vbd_back.specs.Ask.{is_waiting}
 use Rattle.vbd_model.specs.World.{World, frontend_of, backend_of}
 use Rattle.vbd_model.specs.Fit.{IsFit}
-use Rattle.round_laws.specs.Movers.{frame_under, FrontGoesOn, BackGoesOn, AreVisited, CallsSay}
+use Rattle.round_laws.specs.Movers.{FrontWords, front_words, frame_under, FrontGoesOn, BackGoesOn, AreVisited, CallsSay}
 use Rattle.round_laws.specs.Calls.{NoneMoves, MoveApart, MayMoveAtOnce}
 use Rattle.round_laws.proofs.Called.{may_move}
 use Rattle.schedule_run.specs.Marks.{is_marked}
@@ -34,22 +28,7 @@ or_false : (a b : Bool) → (a || b) ≡ false → b ≡ false
 or_false true b e = absurd (true≢false e)
 or_false false b e = e
 
--- the front says this of itself
-pub front_says : (n : ℕ) (f : front.View) (h : Hypervisor) (before marks : List ℕ) (p : FrontPart) → Some p ≡ sector_part f → n < p.count → IsWithin p → IsUnkept f.ring
-    → ((frame : ℕ) → is_marked marks frame ≡ (frame == p.frame || is_marked before frame)) → FrontSays n f h marks
-front_says n f h before marks p is few within unkept marked = record {
-  stays = subst (FrontStays n f h) is (few, within.words, unkept);
-  marked = subst (λ (o : Option FrontPart). IfSome o (λ q. is_marked marks q.frame ≡ true)) is
-      (marked p.frame ∙ ap (λ (b : Bool). b || is_marked before p.frame) (eq-eqb p.frame p.frame refl));
-}
-
-pub front_idles : (n : ℕ) (f : front.View) (h : Hypervisor) (marks : List ℕ) → None ≡ sector_part f → front_asks.is_waiting f ≡ true → has_to_take h end.Front ≡ false → FrontSays n f h marks
-front_idles n f h marks is waits untaken = record {
-  stays = subst (FrontStays n f h) is (waits, untaken);
-  marked = subst (λ (o : Option FrontPart). IfSome o (λ q. is_marked marks q.frame ≡ true)) is tt;
-}
-
--- so does the back
+-- the back says this of itself
 pub back_says : (n : ℕ) (h : Hypervisor) (b : Backend) (before after : List ℕ) (p : JobPart) → Some p ≡ entry_part b → b.ring.halted ≡ None → n < p.count → IsWithinPage p → KeepsNone b.ring → is_marked before (frame_under h p) ≡ false
     → ((frame : ℕ) → is_marked after frame ≡ (frame == frame_under h p || is_marked before frame)) → BackSays n h b before after
 back_says n h b before after p is runs few within none fresh marked = record {
@@ -156,11 +135,11 @@ module _ (h : Hypervisor) (v : View) where
   looked_all first marks last least left none done some looked = looked.all least [] some (omega arith) (sym done) (come_none least last marks none)
 
 -- what the look says of the machine
-front_so : (n : ℕ) (w : World) (o : Option FrontPart) → FrontStays n (frontend_of w) w.rings.under o → FrontGoesOn n w o
+front_so : (n : ℕ) (w : World) (o : Option FrontWords) → FrontStays n (frontend_of w) w.rings.under o → FrontGoesOn n w o
 front_so n w None stays = stays
 front_so n w (Some p) stays = stays
 
-front_apart : (w : World) (marks numbers : List ℕ) (o : Option FrontPart) → IfSome o (λ p. is_marked marks p.frame ≡ true) → NoneMarked marks w.rings.under w.rings.back numbers → IfSome o (λ p. NoneMoves w.rings.under w.rings.back p.frame numbers)
+front_apart : (w : World) (marks numbers : List ℕ) (o : Option FrontWords) → IfSome o (λ p. is_marked marks p.frame ≡ true) → NoneMarked marks w.rings.under w.rings.back numbers → IfSome o (λ p. NoneMoves w.rings.under w.rings.back p.frame numbers)
 front_apart w marks numbers None marked unmarked = tt
 front_apart w marks numbers (Some p) marked unmarked = marked_apart w.rings.under w.rings.back marks p.frame numbers marked unmarked
 
@@ -170,7 +149,7 @@ back_apart : (w : World) (marks numbers : List ℕ) (o : Option JobPart) → IfS
 back_apart w marks numbers None marked unmarked = tt
 back_apart w marks numbers (Some p) marked unmarked = marked_apart w.rings.under w.rings.back marks (frame_under w.rings.under p) numbers marked unmarked
 
-ends_apart : (h : Hypervisor) (marks : List ℕ) (e : Option JobPart) (o : Option FrontPart) → IfSome o (λ q. is_marked marks q.frame ≡ true) → IfSome e (λ p. is_marked marks (frame_under h p) ≡ false)
+ends_apart : (h : Hypervisor) (marks : List ℕ) (e : Option JobPart) (o : Option FrontWords) → IfSome o (λ q. is_marked marks q.frame ≡ true) → IfSome e (λ p. is_marked marks (frame_under h p) ≡ false)
     → IfSome e (λ p. IfSome o (λ q. q.frame ≢ frame_under h p))
 ends_apart h marks None o marked fresh = tt
 ends_apart h marks (Some p) None marked fresh = tt
@@ -181,10 +160,10 @@ may_move_so n w first marks fit front back jobs =
     may_move n w fit.safe.front_told fit.safe.back_told (record {
       unhalted = back.runs;
       back = back.goes;
-      front = front_so n w (sector_part (frontend_of w)) front.stays;
+      front = front_so n w (front_words (frontend_of w)) front.stays;
       numbers = jobs.numbers;
       jobs = jobs.come;
-      front_apart = front_apart w first jobs.numbers (sector_part (frontend_of w)) front.marked (all_before w.rings.under w.rings.back first marks jobs.numbers back.kept jobs.unmarked);
+      front_apart = front_apart w first jobs.numbers (front_words (frontend_of w)) front.marked (all_before w.rings.under w.rings.back first marks jobs.numbers back.kept jobs.unmarked);
       back_apart = back_apart w marks jobs.numbers (entry_part (backend_of w)) back.marked jobs.unmarked;
-      ends_apart = ends_apart w.rings.under first (entry_part (backend_of w)) (sector_part (frontend_of w)) front.marked back.fresh;
+      ends_apart = ends_apart w.rings.under first (entry_part (backend_of w)) (front_words (frontend_of w)) front.marked back.fresh;
     })

@@ -1,29 +1,27 @@
--- What a look at both ends says: whether the front, or a job, is in the middle of a sector's words, or the back of an entry's, or waits. Each marks the frame whose words it moves.
-use Rattle.std.specs.Prelude.{◌≡◌, ℕ, ◌+◌, ◌<◌, ◌≤◌, true, false, List, Option, Some, None, IfSome}
+-- What a look at both ends says: whether the front is in the middle of a sector's words or of an entry's, a job of a sector's, or the back of an entry's, or waits. Each marks the frame whose words it moves.
+use Rattle.std.specs.Prelude.{◌≡◌, ℕ, ◌+◌, ◌<◌, ◌≤◌, true, false, List, length, Option, Some, None, IfSome}
 use Rattle.std.specs.List.{AllByRecursion}
 use Rattle.blk_base.specs.declared.parts.End.TheVariants as end
 use Rattle.hypervisor.specs.Hypervisor.{Hypervisor}
 use Rattle.hypervisor.specs.Act.{has_to_take}
-use Rattle.blk_front.specs.declared.sector_part.SectorPart.{SectorPart as FrontPart}
 use Rattle.blk_back.specs.View as back_ring
 use Rattle.blk_back.specs.Part.{job_part}
 use Rattle.vbd_front.specs.View.{View, IsUnkept}
 use Rattle.vbd_front.specs.Ask.{is_waiting}
-use Rattle.vbd_front.specs.Part.{sector_part}
 use Rattle.vbd_back.specs.View.{View as Backend}
 use Rattle.vbd_back.specs.Part.{entry_part}
-use Rattle.round_laws.specs.Movers.{frame_under, BackGoesOn, CallsSay}
+use Rattle.round_laws.specs.Movers.{FrontWords, front_words, frame_under, BackGoesOn, CallsSay}
 use Rattle.round_laws.specs.Calls.{AllComeAndGoOn}
 use Rattle.schedule_run.specs.Marks.{is_marked}
 
--- the front has more than n words left in its sector, and keeps no grants; or it waits with nothing to take
-abbrev pub FrontStays : ℕ → View → Hypervisor → Option FrontPart → Type 0
-FrontStays n f h (Some p) = (n < p.count) × (p.word + p.count ≤ 1024) × IsUnkept f.ring
+-- the front has more than n words left in its sector or its entry, has those that it is to write, and keeps no grants; or it waits with nothing to take
+abbrev pub FrontStays : ℕ → View → Hypervisor → Option FrontWords → Type 0
+FrontStays n f h (Some p) = (n < p.count) × (p.word + p.count ≤ 1024) × IfSome p.values (λ values. p.count ≤ length values) × IsUnkept f.ring
 FrontStays n f h None = (is_waiting f ≡ true) × (has_to_take h end.Front ≡ false)
 
 pub record FrontSays (n : ℕ) (f : View) (h : Hypervisor) (marks : List ℕ) : Type 0 where
-  pub stays : FrontStays n f h (sector_part f)
-  pub marked : IfSome (sector_part f) (λ p. is_marked marks p.frame ≡ true)
+  pub stays : FrontStays n f h (front_words f)
+  pub marked : IfSome (front_words f) (λ p. is_marked marks p.frame ≡ true)
 
 -- so it is of the back and its ring's frame, which wasn't marked before; what was marked is
 pub record BackSays (n : ℕ) (h : Hypervisor) (b : Backend) (before after : List ℕ) : Type 0 where

@@ -13,7 +13,7 @@ use schedule_text::{Detail, RecordStop, Recorder};
 
 impl Split {
     // Some rounds, that many at most: where it is to look and the recorder keeps no lines of moves, all at
-    // once that move nothing but words of sectors and of an entry; else one.
+    // once that move nothing but words of sectors and of entries; else one.
     #[inline(always)]
     pub(super) fn some_rounds<D: SectorDisk, R: Recorder>(
         &mut self,
@@ -42,8 +42,8 @@ impl Split {
     }
 
     // How many rounds, that many at most, move nothing but words, none of them the last of a sector or of an
-    // entry: the front and each job are in the middle of a sector's words, or wait, and the back of an
-    // entry's, or waits. None elsewhere.
+    // entry: each job is in the middle of a sector's words, the front of a sector's or of an entry's, and the
+    // back of an entry's, or it waits. None elsewhere.
     fn rounds_of_words(&self, most: u64) -> u32
         ensures few { result ≤ most }
         ensures words { 0 < result → MayMoveAtOnce result self.now }
@@ -65,7 +65,7 @@ impl Split {
         words_of_jobs(&self.back, &self.under, count, &mut marks)
     }
 
-    // So many rounds of nothing but words of sectors and of an entry.
+    // So many rounds of nothing but words of sectors and of entries.
     fn move_words(&mut self, count: u32)
         requires { MayMoveAtOnce count self.old }
         ensures { self.new ≡ moved count self.old }

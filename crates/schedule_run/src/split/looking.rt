@@ -1,4 +1,4 @@
-// How many rounds move nothing but words of sectors.
+// How many rounds move nothing but words of sectors and of entries.
 ghost use Rattle.std.specs.Prelude.{ℕ, ◌<◌, ◌≤◌, All};
 ghost use Rattle.grant_table.specs.Table.{IsLive};
 ghost use Rattle.blk_back.specs.Hands.{hands_of};
@@ -10,8 +10,8 @@ use hypervisor::Hypervisor;
 use vbd_back::Backend;
 use vbd_front::Frontend;
 
-/// So many words, that many at most, the front may move and be in its sector still; where it waits and has
-/// nothing to take, as many as that. It marks their frame.
+/// So many words, that many at most, the front may move and be in its sector still, or in its entry; where it
+/// waits and has nothing to take, as many as that. It marks their frame.
 pub(super) fn words_of_front(
     front: &Frontend,
     under: &Hypervisor,
@@ -21,21 +21,21 @@ pub(super) fn words_of_front(
     ensures few { result ≤ most }
     ensures front { (n : ℕ) → 0 < n → n ≤ result → FrontSays n front.now under.now marks.new }
 {
-    match front.sector_part() {
-        Some(part) => {
-            mark(marks, part.frame);
-            all_but_one(part.count, most)
-        }
-        None => {
-            if !front.waits() {
-                return 0;
-            }
-            if under.has_to_take(End::Front) {
-                return 0;
-            }
-            most
-        }
+    if let Some(part) = front.sector_part() {
+        mark(marks, part.frame);
+        return all_but_one(part.count, most);
     }
+    if let Some(part) = front.entry_part() {
+        mark(marks, part.frame);
+        return all_but_one(part.count, most);
+    }
+    if !front.waits() {
+        return 0;
+    }
+    if under.has_to_take(End::Front) {
+        return 0;
+    }
+    most
 }
 
 /// So many words, that many at most, the back may copy and be in its entry still; where it waits and has

@@ -1,13 +1,14 @@
-// Words of sectors, many at once.
-ghost use Rattle.std.specs.Prelude.{◌≡◌, ◌≤◌, None, IfSome, All, map};
+// Words of sectors and of entries, many at once.
+ghost use Rattle.std.specs.Prelude.{◌≡◌, ◌≤◌, Some, None, IfSome, All, map};
 ghost use Rattle.grant_table.specs.Table.{IsLive};
 ghost use Rattle.hypervisor.specs.Act.{with_pages};
+ghost use Rattle.blk_front.specs.Part.{IsWithin};
 ghost use Rattle.back_jobs.specs.Part.{IsWithinPage};
 ghost use Rattle.blk_back.specs.Hands.{hands_of};
 ghost use Rattle.vbd_front.specs.Part.{sector_part, steps_of};
 ghost use Rattle.vbd_back.specs.View.{both};
 ghost use Rattle.vbd_back.specs.Part.{job_part, job_values, job_steps, entry_part, steps_of as back_steps};
-ghost use Rattle.round_laws.specs.Movers.{front_answers, front_writes, back_answers, job_answers, job_moved, job_writes, jobs_write};
+ghost use Rattle.round_laws.specs.Movers.{front_words, front_answers, front_writes, back_answers, job_answers, job_moved, job_writes, jobs_write};
 ghost use Rattle.round_laws.specs.AtOnce.{with_jobs};
 ghost use Rattle.round_laws.specs.Calls.{JobsMayMove};
 
@@ -17,17 +18,36 @@ use hypervisor::Hypervisor;
 use vbd_back::Backend;
 use vbd_front::Frontend;
 
-/// The front moves so many words, where it is in the middle of a sector's.
+/// The front moves so many words, where it is in the middle of a sector's or of an entry's.
 pub(super) fn move_front(front: &mut Frontend, under: &mut Hypervisor, count: u32)
     requires told { front.old.ring.told ≡ None }
-    requires few { IfSome (sector_part front.old) (λ part. count ≤ part.count) }
-    ensures front { front.new ≡ steps_of front.old (front_answers (sector_part front.old) under.old.pages count) }
-    ensures under { under.new ≡ with_pages under.old (front_writes (sector_part front.old) count under.old.pages) }
+    requires few { IfSome (front_words front.old) (λ words. count ≤ words.count) }
+    ensures front { front.new ≡ steps_of front.old (front_answers (front_words front.old) under.old.pages count) }
+    ensures under { under.new ≡ with_pages under.old (front_writes (front_words front.old) count under.old.pages) }
     ensures news { front.new.news ≡ front.old.news }
 {
-    let Some(part) = front.sector_part() else {
+    if let Some(part) = front.sector_part() {
+        move_sector(front, under, part, count);
         return;
-    };
+    }
+    if let Some(part) = front.entry_part() {
+        let words = front.entry_words();
+        under.write_front_words(part.frame, part.word, &words[..count as usize]);
+        front.tell_entered(count);
+    }
+}
+
+// It moves so many words of its sector.
+#[inline(always)]
+fn move_sector(front: &mut Frontend, under: &mut Hypervisor, part: FrontPart, count: u32)
+    requires part { sector_part front.old ≡ Some part }
+    requires within { IsWithin part }
+    requires told { front.old.ring.told ≡ None }
+    requires few { count ≤ part.count }
+    ensures front { front.new ≡ steps_of front.old (front_answers (front_words front.old) under.old.pages count) }
+    ensures under { under.new ≡ with_pages under.old (front_writes (front_words front.old) count under.old.pages) }
+    ensures news { front.new.news ≡ front.old.news }
+{
     match part.value {
         Some(value) => {
             let words = [value; 128];
