@@ -12,6 +12,10 @@ use Rattle.blk_back.specs.declared.stage.Reply.{Reply}
 use Rattle.blk_back.specs.declared.stage.BackStage.{BackStage}
 use Rattle.blk_back.specs.declared.stage.BackStage.TheVariants as stage
 use Rattle.blk_back.specs.View.{View}
+use Rattle.back_jobs.specs.Hands.{Names}
+use Rattle.blk_base.specs.declared.ask.BackAsk.{BackAsk}
+use Rattle.blk_back.specs.Hands.{hands_of}
+use Rattle.blk_back.proofs.Plain.{plain_job_ask}
 use Rattle.blk_back.proofs.Hands.{hands_after, job_hands_after, attached_hands, halted_hands}
 use Rattle.back_laws.specs.Happening.{Happening, Answers, AnswersJob, TakesTold, Attaches, Halts, MayHappen}
 use Rattle.back_laws.specs.Run.{BackRun, begins, now}
@@ -119,7 +123,9 @@ pub names_held : NamesWhatItHolds
 names_held r = back_names (now r) (always r).back
 
 pub jobs_name_held : JobsNameWhatIsHeld
-jobs_name_held r number = job_names_own (now r) number (always r).back
+jobs_name_held r number =
+    let a = always r in
+    subst (λ (asked : BackAsk). Names (hands_of (now r)) asked) (plain_job_ask (now r) number a.none) (job_names_own (now r) number a.back)
 
 holds_after : (h : Happening) (v : View) → MayHappen h v → HoldsAfter h v
 holds_after (Answers given) v may = hands_after v given may.0

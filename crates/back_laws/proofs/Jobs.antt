@@ -1,9 +1,8 @@
--- A job names the mapping in its hand and a word of its page, whatever it is told that its ask allows.
-use Rattle.std.proofs.Common.{◌≡◌, ℕ, ◌+◌, ◌<◌, ◌≤◌, suc, Bool, true, false, cond, if◌then◌else◌, List, [], ◌∷◌, ◌++◌, length, take, drop, refl, ap, ◌∙◌, subst, arith}
-use Rattle.std.specs.Prelude.{All, Option, Some, None, is_some, not, ◌||◌, nat_le, nat_lt, ◌==◌}
+-- What is true of a job that keeps no mappings, whatever it is told that its ask allows: its segments are sound, and its mapping was made as its words go.
+use Rattle.std.proofs.Common.{◌≡◌, ℕ, ◌+◌, ◌<◌, ◌≤◌, Bool, true, false, if◌then◌else◌, List, [], ◌∷◌, ◌++◌, length, take, drop, refl, arith}
+use Rattle.std.specs.Prelude.{not, ◌||◌, nat_le, nat_lt, ◌==◌}
 use Rattle.std.specs.List.{AllByRecursion, list_any}
-use Rattle.std.proofs.lemmas.Option.{none-some, slice_get_within, get_or_from_slice_get}
-use Rattle.std.proofs.lemmas.List.Elements.{All-nil, All-tail, All-set, All-push, All-append, All-take, All-drop, All-get_or, recursion_from_All}
+use Rattle.std.proofs.lemmas.List.Elements.{recursion_from_All}
 use Rattle.std.proofs.lemmas.Bool.Decides.{nat_tests}
 use Rattle.blk_base.specs.declared.parts.Mapping.{Mapping}
 use Rattle.blk_base.specs.declared.operation.Op.TheVariants as op
@@ -28,10 +27,6 @@ use Rattle.segment_list.proofs.Served.{transfer_served, finished_on_disk}
 use Rattle.back_jobs.specs.declared.stage.JobStage.{JobStage}
 use Rattle.back_jobs.specs.declared.stage.JobStage.TheVariants as stage
 use Rattle.back_jobs.specs.Work.{Work, ask_of, ask_at, map_ask, page_ask, copied, is_copied_out, passes, judged, page_done, paging, mode_of, step_of, step_at, sector_stage, next_sector, next_segment, counted, first_of, rest_of, last_of, begun, served, moving, ended, frameless, IsAnswer}
-use Rattle.back_jobs.specs.Jobs.{HeldJobs, mapping_at, asked, work_at, told_at, removed_at, after_mapping, start_job}
-use Rattle.back_jobs.specs.Hands.{hand_of, hands_in, Names}
-use Rattle.back_jobs.proofs.Hands.{hand_at, named_in}
-use Rattle.back_jobs.proofs.Sizes.{only}
 
 -- the sector that a job is at is one of its segment
 abbrev IsInside : Work → Type 0
@@ -62,40 +57,9 @@ pub record IsJob (t : Work) : Type 0 where
   pub segments : is_untested t.stage ≡ false → AllByRecursion IsSound t.rest
   pub placed : IsPlaced t.stage t
 
-last_small : (rest : List Segment) → AllByRecursion IsSound rest → last_of rest ≤ 7
-last_small [] sound = omega arith
-last_small (s ∷ rest) sound = sound.0.inside
-
 first_last : (rest : List Segment) → AllByRecursion IsSound rest → first_of rest ≤ last_of rest
 first_last [] sound = omega arith
 first_last (s ∷ rest) sound = sound.0.nonempty
-
-names_map : (rest : List Segment) (writes : Bool) → Names [] (map_ask rest writes)
-names_map [] writes = tt
-names_map (s ∷ rest) writes = tt
-
-names_page : (pages : List ℕ) → Names [] (page_ask pages)
-names_page [] = tt
-names_page (gref ∷ pages) = tt
-
-names_at : (s : JobStage) (t : Work) → (is_untested s ≡ false → AllByRecursion IsSound t.rest) → IsPlaced s t → Names (hand_at s) (ask_at s t)
-names_at stage.MapPage t sound p = names_page t.pages
-names_at (stage.PageReference m) t sound p = (only m, omega arith)
-names_at (stage.PageSectors m gref) t sound p = (only m, omega arith)
-names_at (stage.UnmapPage m) t sound p = only m
-names_at stage.Map t sound p = names_map t.rest t.writes
-names_at (stage.ReadWord m k) t sound p =
-    let small = last_small t.rest (sound refl) in let word = p.0 in let inside = p.1 in
-    (only m, omega arith)
-names_at (stage.WriteWord m k) t sound p =
-    let small = last_small t.rest (sound refl) in let word = p.0 in let inside = p.1 in
-    (only m, p.2.0 ∙ ap mode_of p.2.1, omega arith)
-names_at (stage.Unmap m) t sound p = only m
-names_at (stage.Abort m) t sound p = only m
-names_at s t sound p = tt
-
-job_names_hand : (t : Work) → IsJob t → Names (hand_of t) (ask_of t)
-job_names_hand t j = names_at t.stage t j.segments j.placed
 
 either : (b : Bool) (x y : Work) → (b ≡ true → IsJob x) → (b ≡ false → IsJob y) → IsJob (if b then x else y)
 either true x y p q = p refl
@@ -242,46 +206,3 @@ pub begun_job : (number : ℕ) (request : RawRequest) (size : ℕ) (info : DiskI
 begun_job number request size info (verdict.Serve plan) e = served_job number request size info plan e
 begun_job number request size info (verdict.Error why) e = record { segments = λ e. tt; placed = tt }
 begun_job number request size info verdict.Unsupported e = record { segments = λ e. tt; placed = tt }
-
--- all the jobs that are held
-abbrev pub AreJobs : List Work → Type 0
-AreJobs works = All IsJob works
-
-pub none_jobs : AreJobs []
-none_jobs = All-nil IsJob
-
-pub started_jobs : (h : HeldJobs) (number : ℕ) (request : RawRequest) → AreJobs h.works → AreJobs (start_job h number request).works
-started_jobs h number request all = All-push IsJob h.works _ all (begun_job number request h.info.sectors h.info (verdict_of request h.info) refl)
-
-pub told_jobs : (works : List Work) (place : Option ℕ) (waits : Bool) (found : Option Work) (given : BackAnswer) → work_at works place ≡ found → IsAnswer (asked waits found) given → AreJobs works → AreJobs (told_at works place found given)
-told_jobs works place waits None given e h all = absurd h
-told_jobs works place true (Some t) given e h all = absurd h
-told_jobs works None false (Some t) given e h all = all
-told_jobs works (Some place) false (Some t) given e h all =
-    let within = slice_get_within works place t e in
-    let same = get_or_from_slice_get works place t t e in
-    All-set IsJob works place (step_of t given) (step_job t given h (subst IsJob same (All-get_or IsJob works place t within all))) all
-
-pub removed_jobs : (works : List Work) (place : Option ℕ) → AreJobs works → AreJobs (removed_at works place)
-removed_jobs works None all = all
-removed_jobs works (Some place) all = All-append IsJob _ _ (All-take IsJob place works all) (All-drop IsJob (suc place) works all)
-
-after_jobs_at : (b : Bool) (works : List Work) → AreJobs works → AreJobs (after_mapping works) → AreJobs (cond b works (after_mapping works))
-after_jobs_at true works all less = all
-after_jobs_at false works all less = less
-
-pub after_jobs : (works : List Work) → AreJobs works → AreJobs (after_mapping works)
-after_jobs [] all = all
-after_jobs (t ∷ works) all =
-    let rest = All-tail IsJob t works all in
-    after_jobs_at (is_some (mapping_at t.stage)) works rest (after_jobs works rest)
-
--- what a job asks names what jobs hold
-pub asked_names : (works : List Work) (place : Option ℕ) (waits : Bool) (found : Option Work) → work_at works place ≡ found → AreJobs works → Names (hands_in works) (asked waits found)
-asked_names works place waits None e all = tt
-asked_names works place true (Some t) e all = tt
-asked_names works None false (Some t) e all = absurd (none-some t e)
-asked_names works (Some place) false (Some t) e all =
-    let within = slice_get_within works place t e in
-    let same = get_or_from_slice_get works place t t e in
-    named_in works place t (ask_of t) e (job_names_hand t (subst IsJob same (All-get_or IsJob works place t within all)))

@@ -2,6 +2,8 @@ pub mod JobLeft
 pub mod BackLeft
 pub mod Calls
 pub mod Jobs
+pub mod KeptJobs
+pub mod Tidy
 pub mod Held
 pub mod Room
 pub mod Narrow
@@ -24,5 +26,4 @@ pub mod PageSteps
 pub mod JobWork
 pub mod PageWork
 pub mod PageRefused
-pub mod Tidy
 mod KeptHalted

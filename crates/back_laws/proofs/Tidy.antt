@@ -19,7 +19,8 @@ use Rattle.back_jobs.proofs.Entire.{told_entire}
 use Rattle.blk_back.specs.declared.stage.Reply.{Reply}
 use Rattle.blk_back.specs.declared.stage.BackStage.{BackStage}
 use Rattle.blk_back.specs.declared.stage.BackStage.TheVariants as stage
-use Rattle.blk_back.specs.View.{View}
+use Rattle.segment_list.specs.declared.verdict.DiskInfo.{DiskInfo}
+use Rattle.blk_back.specs.View.{View, new_of}
 use Rattle.blk_back.specs.Ask.{next_reply}
 use Rattle.blk_back.specs.Step.{unmapping_next, unbound, bound, other_pages, may_halt, may_attach, attached, overrun, looked, next_number, fetched}
 use Rattle.blk_back.specs.Keeping.{abort_keeping, halts_keeping_at, may_keep_most, keeping_most, overrun_keeping, looked_keeping, loop_word_keeping, loop_step_keeping, fetched_keeping, fetch_step_keeping, step_keeping_at, job_step_keeping}
@@ -154,8 +155,11 @@ tidy_after : (hs : List KeptHappening) (v : View) → IsTidy v → IsTidy (after
 tidy_after [] v t = t
 tidy_after (h ∷ hs) v t = tidy_after hs (happened h v) (happened_tidy h v t)
 
+pub tidy_new : (start : ℕ) (info : DiskInfo) → IsTidy (new_of start info)
+tidy_new start info = record { few = omega arith; cap = omega arith; cleared = (refl, refl); emptied = tt }
+
 tidy_now : (r : KeepingRun) → IsTidy (now r)
-tidy_now r = tidy_after r.happenings (begins r) (record { few = omega arith; cap = omega arith; cleared = (refl, refl); emptied = tt })
+tidy_now r = tidy_after r.happenings (begins r) (tidy_new r.start r.info)
 
 pub keeps_few : KeepsFew
 keeps_few r = let t = tidy_now r in (t.few, t.cap)

@@ -6,14 +6,14 @@ use Rattle.blk_base.specs.declared.halt.Halt.{Halt}
 use Rattle.ring_words.specs.Shape.{Shape}
 use Rattle.segment_list.specs.declared.verdict.DiskInfo.{DiskInfo}
 use Rattle.back_jobs.specs.Work.{IsAnswer as IsJobAnswer}
-use Rattle.back_jobs.specs.Hands.{HandsKeep}
+use Rattle.back_jobs.specs.Hands.{Names, HandsKeep}
 use Rattle.blk_back.specs.declared.stage.BackStage.{BackStage}
 use Rattle.blk_back.specs.declared.stage.BackStage.TheVariants as stage
 use Rattle.blk_back.specs.View.{View, new_of}
 use Rattle.blk_back.specs.Ask.{ask_of, IsAnswer}
 use Rattle.blk_back.specs.Step.{attaches}
 use Rattle.blk_back.specs.Keeping.{step_keeping, job_ask_keeping, job_step_keeping, keeps, halts_keeping}
-use Rattle.blk_back.specs.Hands.{all_hands_of}
+use Rattle.blk_back.specs.Hands.{hands_of, all_hands_of}
 use Rattle.blk_back.specs.Sound.{IsCleared}
 
 -- Its ask is answered (`tell`), or that of the job of a number (`job_tell`); what is to be told is taken (`take_told`); its negotiation has terms for it (`attach`), says how many mappings it may keep (`keep_at_most`), or has it halt (`halt`).
@@ -75,6 +75,13 @@ HoldsAfter h v = IsPermutation (all_hands_of v) (all_hands_of (happened h v))
 
 abbrev pub LosesNone : Type 0
 LosesNone = (r : KeepingRun) → (all_hands_of (begins r) ≡ []) × ((h : KeptHappening) → MayHappen h (now r) → HoldsAfter h (now r))
+
+-- what it asks names only mappings in its hands, and words below 1024, and writes only through one that was made for writing; so does what each of its jobs asks, through a mapping that it made or took of those that are kept
+abbrev pub NamesWhatItHolds : Type 0
+NamesWhatItHolds = (r : KeepingRun) → Names (hands_of (now r)) (ask_of (now r))
+
+abbrev pub JobsNameWhatIsHeld : Type 0
+JobsNameWhatIsHeld = (r : KeepingRun) (number : ℕ) → Names (hands_of (now r)) (job_ask_keeping (now r) number)
 
 -- a back that has halted, and is to do nothing more, holds and keeps none
 abbrev pub LeavesNone : Type 0

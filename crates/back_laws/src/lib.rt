@@ -105,6 +105,14 @@ pub fn a_back_that_keeps_mappings_loses_none()
     ensures leaves_none { LeavesNone }
 {}
 
+/// Such a back and its jobs name only mappings that are in their hands, a job's own or one that it took of
+/// those that are kept, touch only words below 1024, and write only through a mapping that was made for
+/// writing.
+pub fn the_asks_go_through_what_is_held_where_mappings_are_kept()
+    ensures back { kept.NamesWhatItHolds }
+    ensures jobs { kept.JobsNameWhatIsHeld }
+{}
+
 /// Each answer to a job's ask lowers what is left to it, whatever the disk, the grants and the words
 /// are; and so what all the jobs have left, if it is one of theirs.
 pub fn each_answer_lowers_what_is_left_to_a_job()

@@ -1,11 +1,12 @@
--- A dump of the machine shows every word of the ring that isn't 0.
+-- A dump of the machine shows every word of the ring that isn't 0, whether mappings are kept or not.
 use Rattle.std.proofs.Common.{◌≡◌, ℕ, zero, suc, ◌+◌, ◌*◌, ◌/◌, ◌%◌, ◌^◌, ◌≤◌, inl, inr, Bool, true, false, List, [], ◌∷◌, ◌++◌, refl, sym, ◌∙◌, subst, arith, append_assoc, true≢false}
-use Rattle.std.specs.Prelude.{Option, Some, None, nat_lt}
+use Rattle.std.specs.Prelude.{Option, Some, None, nat_lt, map}
 use Rattle.std.specs.List.{AllByRecursion}
 use Rattle.std.proofs.lemmas.Bool.Decides.{nat_tests}
 use Rattle.std.proofs.lemmas.List.{append-nil}
 use Rattle.std.proofs.lemmas.List.Sums.{fold-append}
 use Rattle.blk_base.specs.Options.{Options}
+use Rattle.blk_base.specs.declared.parts.End.TheVariants as end
 use Rattle.xen_pages.specs.Pages.{word_of}
 use Rattle.grant_table.specs.Table.{GrantTable}
 use Rattle.schedule_text.specs.declared.line.Line.{Line}
@@ -15,19 +16,21 @@ use Rattle.report_rules.specs.Obeys.{Obeys}
 use Rattle.report_rules.specs.Value.{value_before}
 use Rattle.report_rules.proofs.Obeys.{obeys_none, obeys_more}
 use Rattle.split_model.specs.World.{World, start_of}
-use Rattle.split_model.specs.Happening.{Happening, Dumps, word_lines, ring_lines, happens, lines_at, lines_of}
+use Rattle.split_model.specs.Keys.{TakesWatch}
+use Rattle.split_model.specs.Happening.{Happening, Negotiates, Dumps, word_lines, ring_lines, lines_at}
+use Rattle.split_model.specs.Kept.{KeepingHappening, Plainly, plainly_shows, happens_keeping, shows_keeping, lines_keeping, IsSafeKeeping}
 use Rattle.split_model.specs.Report.{report_of, ended_report_of}
-use Rattle.split_model.specs.Safe.{IsSafe}
-use Rattle.split_model.proofs.Safe.{safe_start, safe_happens}
+use Rattle.split_model.proofs.Kept.{kept_start, kept_happens}
 use Rattle.blk_front.proofs.Shapes.{few_pages}
-use Rattle.split_model.proofs.Showing.{MayShow, lines_are}
+use Rattle.split_model.proofs.Showing.{MayShow}
 use Rattle.move_laws.specs.Tells.{Tells}
-use Rattle.move_laws.specs.Permitted.{ArePermitted}
+use Rattle.move_laws.specs.Kept.{ArePermittedKeeping, AreWishedKeeping, report_keeping, ended_report_keeping}
 use Rattle.move_laws.specs.Dumped.{place_in_ring, dump_after, dumped_to, AreZero, MayEnd, GoesOn, ComesTo, IsDumpedAt, AreWholeDumps, AreWished}
-use Rattle.move_laws.proofs.Always.{always_within}
-use Rattle.move_laws.proofs.Wished.{HasOrder, order_happens}
+use Rattle.move_laws.proofs.Always.{always_within_keeping}
+use Rattle.move_laws.proofs.KeptLines.{plainly_are, lines_keeping_are}
+use Rattle.move_laws.proofs.Wished.{HasOrder, order_keeping}
 use Rattle.move_laws.proofs.Still.{still, tells_still}
-use Rattle.move_laws.proofs.Runs.{FollowsTo, follows_happens, follows_begin}
+use Rattle.move_laws.proofs.Runs.{FollowsTo, follows_keeping, follows_begin, as_without}
 
 abbrev pub is_word : Line → Bool
 is_word (lines.Word frame word value) = true
@@ -138,27 +141,44 @@ wordless Dumps line other shows = absurd other
 wordless h (lines.Word frame word value) other shows = absurd shows
 wordless h line other shows = refl
 
-dumped_happens : (order : ℕ) (w : World) (h : Happening) (before : List Line) → order ≤ 4 → HasOrder order w → FollowsTo before w → AreDumped (1024 * 2 ^ order) before → AreDumped (1024 * 2 ^ order) (before ++ lines_at w h)
-dumped_happens order w Dumps before narrow is f d = dump_shows order w before narrow is f d
-dumped_happens order w h before narrow is f d = others (1024 * 2 ^ order) (lines_at w h) before (lines_are IsNoWord w h (λ line shows. wordless h line tt shows)) d
+dumped_happens : (order : ℕ) (w : World) (h : KeepingHappening) (before : List Line) → order ≤ 4 → HasOrder order w → FollowsTo before w → AreDumped (1024 * 2 ^ order) before → AreDumped (1024 * 2 ^ order) (before ++ shows_keeping w h)
+dumped_happens order w (Plainly Dumps) before narrow is f d = dump_shows order w before narrow is f d
+dumped_happens order w (Plainly h) before narrow is f d = others (1024 * 2 ^ order) (plainly_shows w h) before (plainly_are IsNoWord w h (λ line shows. wordless h line tt shows)) d
+dumped_happens order w h before narrow is f d = others (1024 * 2 ^ order) (shows_keeping w h) before (lines_keeping_are IsNoWord w h (λ line shows. wordless (Negotiates end.Back TakesWatch) line tt shows)) d
 
-dumped_after : (order : ℕ) (hs : List Happening) (w : World) (before : List Line) → order ≤ 4 → AreWished order hs → HasOrder order w → IsSafe w → ArePermitted hs w → FollowsTo before w → AreDumped (1024 * 2 ^ order) before
-    → AreDumped (1024 * 2 ^ order) (before ++ lines_of hs w)
+dumped_after : (order : ℕ) (hs : List KeepingHappening) (w : World) (before : List Line) → order ≤ 4 → AreWishedKeeping order hs → HasOrder order w → IsSafeKeeping w → ArePermittedKeeping hs w → FollowsTo before w → AreDumped (1024 * 2 ^ order) before
+    → AreDumped (1024 * 2 ^ order) (before ++ lines_keeping hs w)
 dumped_after order [] w before narrow wished is safe within f d = others (1024 * 2 ^ order) [] before tt d
 dumped_after order (h ∷ hs) w before narrow wished is safe within f d =
-    subst (λ (ls : List Line). AreDumped (1024 * 2 ^ order) ls) (append_assoc before (lines_at w h) (lines_of hs (happens w h)))
-    (dumped_after order hs (happens w h) (before ++ lines_at w h) narrow wished.1 (order_happens order w h wished.0 is) (safe_happens w h safe) within.1 (follows_happens w h before safe within.0 f)
+    let next : World = happens_keeping w h in
+    subst (λ (ls : List Line). AreDumped (1024 * 2 ^ order) ls) (append_assoc before (shows_keeping w h) (lines_keeping hs next))
+    (dumped_after order hs next (before ++ shows_keeping w h) narrow wished.1 (order_keeping order w h wished.0 is) (kept_happens w h safe) within.1 (follows_keeping w h before safe.held within.0 f)
     (dumped_happens order w h before narrow is f d))
 
-report_dumps : (config : Options) (detail : Detail) (history : List Happening) → config.order ≤ 4 → AreWished config.order history → AreDumped (1024 * 2 ^ config.order) (report_of config detail history)
+report_dumps : (config : Options) (detail : Detail) (history : List KeepingHappening) → config.order ≤ 4 → AreWishedKeeping config.order history → AreDumped (1024 * 2 ^ config.order) (report_keeping config detail history)
 report_dumps config detail history narrow wished =
     let first = lines.Begin config detail in
     let size = 1024 * 2 ^ config.order in
-    dumped_after config.order history (start_of config) (first ∷ []) narrow wished refl (safe_start config) (always_within config history narrow) (follows_begin config detail)
+    dumped_after config.order history (start_of config) (first ∷ []) narrow wished refl (kept_start config) (always_within_keeping config history narrow) (follows_begin config detail)
     (others size (first ∷ []) [] (refl, tt) (record { obeys = obeys_none (IsDumpedAt size); over = tt }))
 
+pub report_dumped_keeping : (config : Options) (detail : Detail) (history : List KeepingHappening) → config.order ≤ 4 → AreWishedKeeping config.order history → AreWholeDumps config.order (report_keeping config detail history)
+report_dumped_keeping config detail history narrow wished = (report_dumps config detail history narrow wished).obeys
+
+pub ended_dumped_keeping : (config : Options) (detail : Detail) (history : List KeepingHappening) → config.order ≤ 4 → AreWishedKeeping config.order history → AreWholeDumps config.order (ended_report_keeping config detail history)
+ended_dumped_keeping config detail history narrow wished = (others (1024 * 2 ^ config.order) (lines.End ∷ []) (report_keeping config detail history) (refl, tt) (report_dumps config detail history narrow wished)).obeys
+
+-- a machine that keeps no mapping goes as this one
+wished_as : (order : ℕ) (hs : List Happening) → AreWished order hs → AreWishedKeeping order (map Plainly hs)
+wished_as order [] wished = tt
+wished_as order (h ∷ hs) wished = (wished.0, wished_as order hs wished.1)
+
 pub report_dumped : (config : Options) (detail : Detail) (history : List Happening) → config.order ≤ 4 → AreWished config.order history → AreWholeDumps config.order (report_of config detail history)
-report_dumped config detail history narrow wished = (report_dumps config detail history narrow wished).obeys
+report_dumped config detail history narrow wished =
+    subst (λ (ls : List Line). AreWholeDumps config.order (lines.Begin config detail ∷ ls)) (as_without config history).lines
+    (report_dumped_keeping config detail (map Plainly history) narrow (wished_as config.order history wished))
 
 pub ended_dumped : (config : Options) (detail : Detail) (history : List Happening) → config.order ≤ 4 → AreWished config.order history → AreWholeDumps config.order (ended_report_of config detail history)
-ended_dumped config detail history narrow wished = (others (1024 * 2 ^ config.order) (lines.End ∷ []) (report_of config detail history) (refl, tt) (report_dumps config detail history narrow wished)).obeys
+ended_dumped config detail history narrow wished =
+    subst (λ (ls : List Line). AreWholeDumps config.order ((lines.Begin config detail ∷ ls) ++ lines.End ∷ [])) (as_without config history).lines
+    (ended_dumped_keeping config detail (map Plainly history) narrow (wished_as config.order history wished))

@@ -6,6 +6,7 @@ pub mod Still
 pub mod Entries
 pub mod Acts
 pub mod Front
+pub mod KeptLines
 pub mod Always
 pub mod Runs
 pub mod Recorded

@@ -1,10 +1,12 @@
--- Whatever happens, the lines obey the rules on memory and mappings, and tell what is there.
-use Rattle.std.proofs.Common.{◌≡◌, ℕ, zero, suc, ◌+◌, ◌*◌, ◌/◌, ◌%◌, ◌^◌, ◌<◌, ◌≤◌, arith, List, [], ◌∷◌, ◌++◌, true, refl, sym, subst, append_assoc}
-use Rattle.std.specs.Prelude.{Option, Some, None}
+-- Whatever happens, the lines obey the rules on memory and mappings, and tell what is there: where mappings may be kept, and so where none are.
+use Rattle.std.proofs.Common.{◌≡◌, ℕ, zero, suc, ◌+◌, ◌*◌, ◌/◌, ◌%◌, ◌^◌, ◌<◌, ◌≤◌, arith, Bool, true, false, if◌then◌else◌, List, [], ◌∷◌, ◌++◌, refl, ap, sym, ◌∙◌, subst, append_assoc}
+use Rattle.std.specs.Prelude.{Option, Some, None, map}
 use Rattle.std.specs.List.{AllByRecursion}
 use Rattle.std.proofs.lemmas.List.{append-nil}
 use Rattle.std.proofs.lemmas.List.Elements.{All-nil}
 use Rattle.blk_base.specs.Options.{Options}
+use Rattle.blk_base.specs.declared.parts.End.TheVariants as end
+use Rattle.blk_base.specs.declared.parts.Mapping.{Mapping}
 use Rattle.blk_base.specs.declared.moves.BackMover.TheVariants as back_mover
 use Rattle.blk_base.specs.declared.moves.Move.{Move}
 use Rattle.xen_pages.specs.Pages.{fresh_pages, word_of, with_word}
@@ -23,22 +25,31 @@ use Rattle.report_rules.specs.Mapped.{AreMapAnswers}
 use Rattle.report_rules.specs.Touch.{AreTouches}
 use Rattle.move_laws.specs.Numbers.{AreNumbered}
 use Rattle.report_rules.proofs.Obeys.{obeys_none}
+use Rattle.persist_grants.specs.KeptMappings.{KeptMappings, mappings_of}
+use Rattle.back_jobs.specs.Hands.{hands_in}
 use Rattle.blk_front.specs.Ask as front_ask
 use Rattle.blk_back.specs.Ask as back_ask
-use Rattle.blk_back.specs.Step as back_step
-use Rattle.blk_back.specs.Hands.{hands_of}
+use Rattle.blk_back.specs.Ask.{is_led}
+use Rattle.blk_back.specs.Hands.{aborted, hands_of, all_hands_of}
+use Rattle.blk_back.specs.Keeping.{step_keeping, job_ask_keeping, job_step_keeping, KeepsNone}
 use Rattle.blk_back.specs.View as back
 use Rattle.split_model.specs.World.{World, start_of, may_suspend, suspended}
-use Rattle.split_model.specs.Happening.{Happening, FrontMoves, BackMoves, JobMoves, Pokes, OverwritesKey, Suspends, Dumps, happens, word_lines, ring_lines, lines_at, after, lines_of, front_after, front_shows, back_after, back_shows, job_after, job_shows, front_turn, back_turn, job_turn}
-use Rattle.split_model.specs.Safe.{IsSafe}
+use Rattle.split_model.specs.Keys.{TakesWatch}
+use Rattle.split_model.specs.Happening.{Happening, FrontMoves, BackMoves, JobMoves, Negotiates, Pokes, OverwritesKey, Suspends, Dumps, happens, word_lines, ring_lines, lines_at, after, lines_of, front_after, front_shows, front_turn, back_turn}
+use Rattle.split_model.specs.Kept.{KeepingHappening, Plainly, BackOffers, BackKeeps, offered, offer_line, reads_keeping, kept_so, keeping_line, back_after_keeping, back_shows_keeping, job_turn_keeping, job_after_keeping, job_shows_keeping, plainly_after, plainly_shows, happens_keeping, shows_keeping, after_keeping, lines_keeping, IsSafeKeeping, RunsAsWithout}
+use Rattle.split_model.specs.Safe.{AreHeld, IsSafe}
 use Rattle.split_model.specs.Shown.{back_lines, halt_lines}
-use Rattle.split_model.proofs.Showing.{lines_are, front_told_is, back_told_is, halt_is, both_all}
-use Rattle.split_model.proofs.Safe.{safe_start, safe_happens}
+use Rattle.split_model.proofs.Showing.{IsOfKeys, front_told_is, back_told_is, halt_is, both_all}
+use Rattle.split_model.proofs.Kept.{kept_start, kept_happens}
+use Rattle.split_model.proofs.KeptHands.{names_more}
+use Rattle.split_model.proofs.Without.{goes_as_without, run_as}
 use Rattle.split_model.proofs.Suspending.{suspend_cases}
 use Rattle.split_model.proofs.Overwriting.{poke_cases, overwriting_cases}
-use Rattle.move_laws.specs.Permitted.{IsPermitted, ArePermitted}
+use Rattle.move_laws.specs.Permitted.{IsPermitted}
+use Rattle.move_laws.specs.Kept.{IsPermittedKeeping, ArePermittedKeeping, report_keeping, ended_report_keeping}
 use Rattle.move_laws.specs.Grantable.{AreGrantable}
-use Rattle.move_laws.proofs.Always.{always_within}
+use Rattle.move_laws.proofs.Always.{IsOrderly, always_within_keeping, within_keeping}
+use Rattle.move_laws.proofs.KeptLines.{plainly_are}
 use Rattle.move_laws.specs.Tells.{Tells}
 use Rattle.move_laws.proofs.Follows.{IsAllowed, Follows}
 use Rattle.move_laws.proofs.Tells.{tells_epoch}
@@ -59,6 +70,10 @@ follow_move before more shown pages pages' table table' follows kept plain =
 plain_halt : (why : Halt) → IsPlain (lines.Halt why)
 plain_halt why = record { is_still = still (lines.Halt why) refl (λ f w v b. refl) (λ n. refl) refl; free = λ b. record { coherent = tt; answered = tt; numbered = tt; touched = tt; grantable = tt } }
 
+-- the mappings that live are those that the back and its jobs hold, with those that are kept
+abbrev pub AllHeld : World → Type 0
+AllHeld w = AreHeld w.under.grants (all_hands_of w.back)
+
 no_lines : (before : List Line) (w : World) → FollowsTo before w → FollowsTo (before ++ []) w
 no_lines before w follows = subst (λ (ls : List Line). FollowsTo ls w) (sym (append-nil before)) follows
 
@@ -68,21 +83,21 @@ front_follows w before (Some a) within follows e =
     follow_move before _ a.shown w.under.pages a.under.pages w.under.grants a.under.grants follows
     (front_kept before w.under (front_ask.ask_of w.front) a follows.tells within e) (front_told_is IsPlain (shown_plain FrontMoves) _)
 
-back_follows : (w : World) (before : List Line) (o : Outcome) (act : Option BackAct) → IsSafe w → IsPermitted w BackMoves → FollowsTo before w → back_turn w o ≡ act → FollowsTo (before ++ back_shows w act) (back_after w act)
-back_follows w before o None safe within follows e = no_lines before w follows
-back_follows w before o (Some a) safe within follows e =
-    let b : back.View = back_step.step_of w.back a.answer in
+back_follows : (w : World) (before : List Line) (o : Outcome) (act : Option BackAct) → AllHeld w → IsPermitted w BackMoves → FollowsTo before w → back_turn w o ≡ act → FollowsTo (before ++ back_shows_keeping w act) (back_after_keeping w act)
+back_follows w before o None held within follows e = no_lines before w follows
+back_follows w before o (Some a) held within follows e =
+    let b : back.View = step_keeping w.back a.answer in
     follow_move before (back_lines b.told a.answer ++ halt_lines w.back.halted b.halted) a.shown w.under.pages a.under.pages w.under.grants a.under.grants follows
-    (back_kept before w.under back_mover.Back (back_ask.ask_of w.back) o a (hands_of w.back) follows.tells safe.held within e)
+    (back_kept before w.under back_mover.Back (back_ask.ask_of w.back) o a (all_hands_of w.back) follows.tells held (names_more w.back (back_ask.ask_of w.back) within) e)
     (both_all IsPlain (back_lines b.told a.answer) (halt_lines w.back.halted b.halted) (back_told_is IsPlain (shown_plain BackMoves) b.told a.answer)
     (halt_is IsPlain plain_halt w.back.halted b.halted))
 
-job_follows : (w : World) (before : List Line) (k : ℕ) (o : Outcome) (act : Option BackAct) → IsSafe w → IsPermitted w (JobMoves k o) → FollowsTo before w → job_turn w k o ≡ act → FollowsTo (before ++ job_shows w k act) (job_after w k act)
-job_follows w before k o None safe within follows e = no_lines before w follows
-job_follows w before k o (Some a) safe within follows e =
-    let b : back.View = back_step.job_step w.back k a.answer in
+job_follows : (w : World) (before : List Line) (k : ℕ) (o : Outcome) (act : Option BackAct) → AllHeld w → IsPermittedKeeping w (Plainly (JobMoves k o)) → FollowsTo before w → job_turn_keeping w k o ≡ act → FollowsTo (before ++ job_shows_keeping w k act) (job_after_keeping w k act)
+job_follows w before k o None held within follows e = no_lines before w follows
+job_follows w before k o (Some a) held within follows e =
+    let b : back.View = job_step_keeping w.back k a.answer in
     follow_move before (back_lines b.told a.answer) a.shown w.under.pages a.under.pages w.under.grants a.under.grants follows
-    (back_kept before w.under (back_mover.Job k) (back_step.job_ask_of w.back k) o a (hands_of w.back) follows.tells safe.held within e)
+    (back_kept before w.under (back_mover.Job k) (job_ask_keeping w.back k) o a (all_hands_of w.back) follows.tells held (names_more w.back (job_ask_keeping w.back k) within) e)
     (back_told_is IsPlain (shown_plain BackMoves) b.told a.answer)
 
 -- a word of the guest's memory that a hostile hand overwrites
@@ -147,21 +162,42 @@ dump_follows w before few follows =
     follow_shown w.under.pages w.under.grants (lines_at w Dumps) before
     (dump_words_are (IsShown w.under.pages w.under.grants) w.under.pages 0 (1024 * 2 ^ w.front.shape.order) (omega (arith, few)) (λ frame word framed worded. word_shown w.under.pages w.under.grants frame word (omega arith) worded)) follows
 
-pub follows_happens : (w : World) (h : Happening) (before : List Line) → IsSafe w → IsPermitted w h → FollowsTo before w → FollowsTo (before ++ lines_at w h) (happens w h)
-follows_happens w FrontMoves before safe within follows = front_follows w before (front_turn w) within follows refl
-follows_happens w BackMoves before safe within follows = back_follows w before Took (back_turn w Took) safe within follows refl
-follows_happens w (JobMoves number outcome) before safe within follows = job_follows w before number outcome (job_turn w number outcome) safe within follows refl
-follows_happens w (Pokes frame word value) before safe within follows = poke_follows w before frame word value follows
-follows_happens w (OverwritesKey name text) before safe within follows = overwritten_follows w before name text follows
-follows_happens w Suspends before safe within follows = suspend_follows w before follows
-follows_happens w Dumps before safe within follows = dump_follows w before within follows
-follows_happens w h before safe within follows = follow_plain (lines_at w h) before w.under.pages w.under.grants (lines_are IsPlain w h (λ line shows. shown_plain h line tt shows)) follows
+-- lines that change nothing wherever they stand, of a happening that leaves memory and mappings as they are
+stays_so : (w : World) (before more : List Line) → ArePlain more → FollowsTo before w → FollowsTo (before ++ more) w
+stays_so w before more plain follows = follow_plain more before w.under.pages w.under.grants plain follows
 
-pub follows_after : (hs : List Happening) (w : World) (before : List Line) → IsSafe w → ArePermitted hs w → FollowsTo before w → FollowsTo (before ++ lines_of hs w) (after hs w)
+follows_plainly : (w : World) (h : Happening) (before : List Line) → AllHeld w → IsPermittedKeeping w (Plainly h) → FollowsTo before w → FollowsTo (before ++ plainly_shows w h) (plainly_after w h)
+follows_plainly w FrontMoves before held within follows = front_follows w before (front_turn w) within follows refl
+follows_plainly w BackMoves before held within follows = back_follows w before Took (back_turn w Took) held within follows refl
+follows_plainly w (JobMoves number outcome) before held within follows = job_follows w before number outcome (job_turn_keeping w number outcome) held within follows refl
+follows_plainly w (Pokes frame word value) before held within follows = poke_follows w before frame word value follows
+follows_plainly w (OverwritesKey name text) before held within follows = overwritten_follows w before name text follows
+follows_plainly w Suspends before held within follows = suspend_follows w before follows
+follows_plainly w Dumps before held within follows = dump_follows w before within follows
+follows_plainly w h before held within follows = stays_so w before (plainly_shows w h) (plainly_are IsPlain w h (λ line shows. shown_plain h line tt shows)) follows
+
+-- what the back does with the keys for kept mappings
+key_plain : (line : Line) → IsOfKeys line → IsPlain line
+key_plain line of_keys = shown_plain (Negotiates end.Back TakesWatch) line tt of_keys
+
+offers_follows : (w : World) (before : List Line) (b : Bool) → FollowsTo before w → FollowsTo (before ++ (if b then offer_line ∷ [] else [])) (if b then offered w else w)
+offers_follows w before true follows = stays_so w before (offer_line ∷ []) (key_plain offer_line tt, tt) follows
+offers_follows w before false follows = no_lines before w follows
+
+keeps_follows : (w : World) (before : List Line) (cap : ℕ) (b : Bool) → FollowsTo before w → FollowsTo (before ++ (if b then keeping_line w ∷ [] else [])) (if b then kept_so w cap else w)
+keeps_follows w before cap true follows = stays_so w before (keeping_line w ∷ []) (key_plain (keeping_line w) tt, tt) follows
+keeps_follows w before cap false follows = no_lines before w follows
+
+pub follows_keeping : (w : World) (h : KeepingHappening) (before : List Line) → AllHeld w → IsPermittedKeeping w h → FollowsTo before w → FollowsTo (before ++ shows_keeping w h) (happens_keeping w h)
+follows_keeping w (Plainly h) before held within follows = follows_plainly w h before held within follows
+follows_keeping w BackOffers before held within follows = offers_follows w before (is_led w.back.stage) follows
+follows_keeping w (BackKeeps cap) before held within follows = keeps_follows w before cap (reads_keeping w cap) follows
+
+pub follows_after : (hs : List KeepingHappening) (w : World) (before : List Line) → IsSafeKeeping w → ArePermittedKeeping hs w → FollowsTo before w → FollowsTo (before ++ lines_keeping hs w) (after_keeping hs w)
 follows_after [] w before safe within follows = no_lines before w follows
 follows_after (h ∷ hs) w before safe within follows =
-    subst (λ (ls : List Line). FollowsTo ls (after hs (happens w h))) (append_assoc before (lines_at w h) (lines_of hs (happens w h)))
-    (follows_after hs (happens w h) (before ++ lines_at w h) (safe_happens w h safe) within.1 (follows_happens w h before safe within.0 follows))
+    subst (λ (ls : List Line). FollowsTo ls (after_keeping hs (happens_keeping w h))) (append_assoc before (shows_keeping w h) (lines_keeping hs (happens_keeping w h)))
+    (follows_after hs (happens_keeping w h) (before ++ shows_keeping w h) (kept_happens w h safe) within.1 (follows_keeping w h before safe.held within.0 follows))
 
 tells_start : Tells [] fresh_pages fresh_table
 tells_start = record { sized = length-fresh_pages; values = λ frame word framed worded. sym (word_of-fresh_pages frame word); standing = refl; made = refl; grantable = All-nil IsGrantable }
@@ -194,20 +230,54 @@ numbers_of ls obeys before rest line e = (obeys before rest line e).numbered
 pub touches_of : (ls : List Line) → Obeys IsAllowed ls → AreTouches ls
 touches_of ls obeys before rest line e = (obeys before rest line e).touched
 
+pub lines_obey_keeping : (config : Options) (history : List KeepingHappening) → config.order ≤ 4 → Obeys IsAllowed (lines_keeping history (start_of config))
+lines_obey_keeping config history narrow = (follows_after history (start_of config) [] (kept_start config) (always_within_keeping config history narrow) follows_start).obeys
+
+pub report_follows_keeping : (config : Options) (detail : Detail) (history : List KeepingHappening) → config.order ≤ 4 → FollowsTo (report_keeping config detail history) (after_keeping history (start_of config))
+report_follows_keeping config detail history narrow =
+    follows_after history (start_of config) (lines.Begin config detail ∷ []) (kept_start config) (always_within_keeping config history narrow) (follows_begin config detail)
+
+pub report_obeys_keeping : (config : Options) (detail : Detail) (history : List KeepingHappening) → config.order ≤ 4 → Obeys IsAllowed (report_keeping config detail history)
+report_obeys_keeping config detail history narrow = (report_follows_keeping config detail history narrow).obeys
+
+pub ended_obeys_keeping : (config : Options) (detail : Detail) (history : List KeepingHappening) → config.order ≤ 4 → Obeys IsAllowed (ended_report_keeping config detail history)
+ended_obeys_keeping config detail history narrow = (ended (report_keeping config detail history) (after_keeping history (start_of config)) (report_follows_keeping config detail history narrow)).obeys
+  where
+    ended : (before : List Line) (w : World) → FollowsTo before w → FollowsTo (before ++ lines.End ∷ []) w
+    ended before w follows = follows_end before w.under.pages w.under.grants follows
+
+-- a machine that keeps no mapping goes as this one
+none_more : (v : back.View) → KeepsNone v → hands_of v ≡ all_hands_of v
+none_more v none =
+    ap (λ (l : List Mapping). aborted v.stage ++ (l ++ v.pages)) (sym (append-nil (hands_in v.jobs.works)))
+    ∙ ap (λ (k : KeptMappings). aborted v.stage ++ ((hands_in v.jobs.works ++ mappings_of k) ++ v.pages)) (sym none)
+
+pub as_without : (config : Options) (history : List Happening) → RunsAsWithout history (start_of config)
+as_without config history = run_as history (start_of config) refl refl
+
+pub follows_happens : (w : World) (h : Happening) (before : List Line) → IsSafe w → IsOrderly w → FollowsTo before w → FollowsTo (before ++ lines_at w h) (happens w h)
+follows_happens w h before safe is follows =
+    let goes = goes_as_without w h is.none is.silent in
+    let held : AllHeld w = subst (AreHeld w.under.grants) (none_more w.back is.none) safe.held in
+    subst (λ (v : World). FollowsTo (before ++ lines_at w h) v) goes.world
+    (subst (λ (ls : List Line). FollowsTo (before ++ ls) (happens_keeping w (Plainly h))) goes.lines
+    (follows_keeping w (Plainly h) before held (within_keeping w (Plainly h) is.ends) follows))
+
 pub lines_obey : (config : Options) (history : List Happening) → config.order ≤ 4 → Obeys IsAllowed (lines_of history (start_of config))
-lines_obey config history narrow = (follows_after history (start_of config) [] (safe_start config) (always_within config history narrow) follows_start).obeys
+lines_obey config history narrow = subst (Obeys IsAllowed) (as_without config history).lines (lines_obey_keeping config (map Plainly history) narrow)
 
 pub report_follows : (config : Options) (detail : Detail) (history : List Happening) → config.order ≤ 4 → FollowsTo (report_of config detail history) (after history (start_of config))
-report_follows config detail history narrow = follows_after history (start_of config) (lines.Begin config detail ∷ []) (safe_start config) (always_within config history narrow) (follows_begin config detail)
+report_follows config detail history narrow =
+    let goes = as_without config history in
+    subst (FollowsTo (report_of config detail history)) goes.world
+    (subst (λ (ls : List Line). FollowsTo (lines.Begin config detail ∷ ls) (after_keeping (map Plainly history) (start_of config))) goes.lines (report_follows_keeping config detail (map Plainly history) narrow))
 
 pub report_obeys : (config : Options) (detail : Detail) (history : List Happening) → config.order ≤ 4 → Obeys IsAllowed (report_of config detail history)
 report_obeys config detail history narrow = (report_follows config detail history narrow).obeys
 
 pub ended_obeys : (config : Options) (detail : Detail) (history : List Happening) → config.order ≤ 4 → Obeys IsAllowed (ended_report_of config detail history)
-ended_obeys config detail history narrow = (ended (report_of config detail history) (after history (start_of config)) (report_follows config detail history narrow)).obeys
-  where
-    ended : (before : List Line) (w : World) → FollowsTo before w → FollowsTo (before ++ lines.End ∷ []) w
-    ended before w follows = follows_end before w.under.pages w.under.grants follows
+ended_obeys config detail history narrow =
+    subst (λ (ls : List Line). Obeys IsAllowed ((lines.Begin config detail ∷ ls) ++ lines.End ∷ [])) (as_without config history).lines (ended_obeys_keeping config detail (map Plainly history) narrow)
 
 pub grantable_of : (ls : List Line) → Obeys IsAllowed ls → AreGrantable ls
 grantable_of ls obeys before rest line e = (obeys before rest line e).grantable

@@ -4,3 +4,4 @@ pub mod Dumped
 pub mod Numbers
 pub mod Tells
 pub mod Reports
+pub mod Kept

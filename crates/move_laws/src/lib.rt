@@ -3,6 +3,8 @@
 //! `split_model`; each law is over every list of happenings, with any options of a ring of 1 to 16
 //! pages. That each ask keeps to what its end may touch is a law too. The rules are those on reads,
 //! on maps and on touches; what the moves say of the ring and of each request is no part of them.
+//! The laws here are of the machine whose back keeps no mappings; all but the last follow from those
+//! of `keeping`.
 #![tactic(auto)]
 
 ghost use Rattle.std.specs.Prelude.{◌≡◌, ◌≤◌, List, true};
@@ -23,6 +25,8 @@ ghost use Rattle.move_laws.specs.Numbers.{AreNumbered};
 ghost use Rattle.move_laws.specs.Tells.{Tells};
 ghost use Rattle.move_laws.specs.Reports.{OfLines, OfReports, OfEnded};
 ghost use Rattle.split_model.specs.Report.{report_of, ended_report_of};
+
+pub mod keeping;
 
 /// Each ask of the front touches a word of the frames that both ends share; each of the back or a
 /// job a word of a page whose mapping they hold, and writes only where that is for writing; and a

@@ -1,5 +1,5 @@
 -- What comes to be so of the front only with a line that says it: where it is so, the report has that line.
-use Rattle.std.proofs.Common.{◌≡◌, ◌⊎◌, inl, inr, ℕ, ◌||◌, Bool, true, List, [], ◌∷◌, ◌++◌, refl, ap, sym, ◌∙◌, subst, append_assoc}
+use Rattle.std.proofs.Common.{◌≡◌, ◌⊎◌, inl, inr, ℕ, ◌||◌, Bool, true, List, [], ◌∷◌, ◌++◌, refl, ap, sym, ◌∙◌}
 use Rattle.std.specs.Prelude.{Option, Some, None}
 use Rattle.std.specs.List.{list_any}
 use Rattle.std.proofs.lemmas.List.Folds.{list_any-append}
@@ -15,11 +15,14 @@ use Rattle.blk_front.specs.Step.{step_of}
 use Rattle.blk_front.specs.State.{in_state}
 use Rattle.blk_front.specs.Submit.{submit_of}
 use Rattle.blk_front.specs.Suspend.{suspended}
+use Rattle.blk_back.specs.Ask.{is_led}
 use Rattle.split_model.specs.World.{World}
 use Rattle.split_model.specs.Shown.{front_lines, state_lines}
-use Rattle.split_model.specs.Happening.{Happening, FrontMoves, BackMoves, JobMoves, FrontEnters, Submits, Suspends, happens, lines_at, after, lines_of, front_after, front_shows, back_after, job_after, front_turn, back_turn, job_turn}
+use Rattle.split_model.specs.Happening.{Happening, FrontMoves, BackMoves, JobMoves, FrontEnters, Submits, Suspends, happens, lines_at, front_after, front_shows, front_turn, back_turn}
+use Rattle.split_model.specs.Kept.{KeepingHappening, Plainly, BackOffers, BackKeeps, offered, kept_so, reads_keeping, back_after_keeping, job_turn_keeping, job_after_keeping, plainly_after, plainly_shows, happens_keeping, shows_keeping}
 use Rattle.split_model.proofs.States.{enters_cases}
 use Rattle.split_model.proofs.Suspending.{suspend_cases}
+use Rattle.move_laws.proofs.KeptLines.{either_world}
 
 -- a line that says this stands there
 abbrev pub Has : (Line → Bool) → List Line → Type 0
@@ -63,28 +66,30 @@ module _ (so : View → Bool) (says : Line → Bool) (announced : IsAnnounced so
   same_said : (w w' : World) (before ls : List Line) → w'.front ≡ w.front → IsSaid so says before w → IsSaid so says (before ++ ls) w'
   same_said w w' before ls same was = λ t. has_first says before ls (was (ap so (sym same) ∙ t))
 
-  back_same : (w : World) (act : Option BackAct) → (let x : World = back_after w act in x.front) ≡ w.front
+  back_same : (w : World) (act : Option BackAct) → (let x : World = back_after_keeping w act in x.front) ≡ w.front
   back_same w None = refl
   back_same w (Some a) = refl
 
-  job_same : (w : World) (number : ℕ) (act : Option BackAct) → (let x : World = job_after w number act in x.front) ≡ w.front
+  job_same : (w : World) (number : ℕ) (act : Option BackAct) → (let x : World = job_after_keeping w number act in x.front) ≡ w.front
   job_same w number None = refl
   job_same w number (Some a) = refl
 
-  one_said : (w : World) (before : List Line) (h : Happening) → IsSaid so says before w → IsSaid so says (before ++ lines_at w h) (happens w h)
-  one_said w before FrontMoves was = front_said w before (front_turn w) was
-  one_said w before BackMoves was = same_said w (back_after w (back_turn w Took)) before _ (back_same w (back_turn w Took)) was
-  one_said w before (JobMoves number outcome) was = same_said w (job_after w number (job_turn w number outcome)) before _ (job_same w number (job_turn w number outcome)) was
-  one_said w before (FrontEnters state) was = enters_said w before state was
-  one_said w before (Submits job) was = λ t. has_first says before _ (was (announced.submit w.front job t))
-  one_said w before Suspends was =
+  plainly_said : (before : List Line) (w : World) (h : Happening) → IsSaid so says before w → IsSaid so says (before ++ plainly_shows w h) (plainly_after w h)
+  plainly_said before w FrontMoves was = front_said w before (front_turn w) was
+  plainly_said before w BackMoves was = same_said w (back_after_keeping w (back_turn w Took)) before _ (back_same w (back_turn w Took)) was
+  plainly_said before w (JobMoves number outcome) was =
+      same_said w (job_after_keeping w number (job_turn_keeping w number outcome)) before _ (job_same w number (job_turn_keeping w number outcome)) was
+  plainly_said before w (FrontEnters state) was = enters_said w before state was
+  plainly_said before w (Submits job) was = λ t. has_first says before _ (was (announced.submit w.front job t))
+  plainly_said before w Suspends was =
       suspend_cases (λ v shown. IsSaid so says (before ++ shown) v) w
       (λ may t. has_first says before _ (was (announced.suspend w.front t)))
       (same_said w w before [] refl was)
-  one_said w before h was = same_said w (happens w h) before _ refl was
+  plainly_said before w h was = same_said w (plainly_after w h) before _ refl was
 
-  pub all_said : (history : List Happening) (w : World) (before : List Line) → IsSaid so says before w → IsSaid so says (before ++ lines_of history w) (after history w)
-  all_said [] w before was = λ t. has_first says before [] (was t)
-  all_said (h ∷ history) w before was =
-      subst (λ (ls : List Line). IsSaid so says ls (after history (happens w h))) (append_assoc before (lines_at w h) (lines_of history (happens w h)))
-      (all_said history (happens w h) (before ++ lines_at w h) (one_said w before h was))
+  pub one_said : (before : List Line) (w : World) (h : KeepingHappening) → IsSaid so says before w → IsSaid so says (before ++ shows_keeping w h) (happens_keeping w h)
+  one_said before w (Plainly h) was = plainly_said before w h was
+  one_said before w BackOffers was =
+      same_said w (happens_keeping w BackOffers) before _ (either_world (λ (x : World). x.front ≡ w.front) (is_led w.back.stage) (offered w) w (λ led. refl) refl) was
+  one_said before w (BackKeeps cap) was =
+      same_said w (happens_keeping w (BackKeeps cap)) before _ (either_world (λ (x : World). x.front ≡ w.front) (reads_keeping w cap) (kept_so w cap) w (λ reads. refl) refl) was

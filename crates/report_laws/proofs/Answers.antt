@@ -1,6 +1,6 @@
 -- Whatever happens, the consumer of responses is as far ahead of the first index as answers were told in this epoch, where it says `ready`.
-use Rattle.std.proofs.Common.{◌≡◌, ◌⊎◌, inl, inr, ℕ, ◌<◌, ◌^◌, ◌&&◌, ◌||◌, Bool, true, false, true≢false, cond, List, [], ◌∷◌, ◌++◌, length, refl, sym, ap, ◌∙◌, subst, append_assoc, arith}
-use Rattle.std.specs.Prelude.{Option, Some, None, nat_le, count_by}
+use Rattle.std.proofs.Common.{◌≡◌, ◌⊎◌, inl, inr, ℕ, ◌<◌, ◌^◌, ◌&&◌, ◌||◌, Bool, true, false, true≢false, cond, List, [], ◌∷◌, ◌++◌, length, refl, sym, ap, ◌∙◌, subst, arith}
+use Rattle.std.specs.Prelude.{Option, Some, None, nat_le, count_by, map}
 use Rattle.std.specs.List.{AllByRecursion, list_any}
 use Rattle.std.proofs.lemmas.List.{append-nil}
 use Rattle.std.proofs.lemmas.List.Folds.{list_any-append}
@@ -26,11 +26,10 @@ use Rattle.blk_front.specs.Submit.{is_initialised}
 use Rattle.blk_front.specs.Suspend.{stage_after, suspended}
 use Rattle.report_rules.specs.Standing.{is_epoch, this_epoch}
 use Rattle.split_model.specs.World.{World, start_of}
-use Rattle.split_model.specs.Safe.{IsSafe}
 use Rattle.split_model.specs.Shown.{front_lines, state_lines}
-use Rattle.split_model.specs.Happening.{Happening, FrontMoves, FrontEnters, Suspends, enter_lines, happens, lines_at, after, lines_of, front_after, front_shows, front_turn}
+use Rattle.split_model.specs.Happening.{Happening, FrontMoves, FrontEnters, Suspends, enter_lines, after, front_after, front_shows, front_turn}
+use Rattle.split_model.specs.Kept.{KeepingHappening, Plainly, happens_keeping, shows_keeping, IsSafeKeeping}
 use Rattle.split_model.specs.Report.{report_of}
-use Rattle.split_model.proofs.Safe.{safe_start, safe_happens}
 use Rattle.split_model.proofs.SafeFront.{start_front}
 use Rattle.split_model.proofs.States.{enters_cases, state_lines_are}
 use Rattle.split_model.proofs.Suspending.{suspend_cases, front_cases}
@@ -38,6 +37,7 @@ use Rattle.machine_pipeline.specs.Plain.{IsPlain}
 use Rattle.machine_pipeline.proofs.Flow.{wrapped}
 use Rattle.report_laws.specs.Ready.{says_ready}
 use Rattle.report_laws.specs.QuietRing.{says_answer, answers_told}
+use Rattle.report_laws.proofs.KeptReports.{report_always, plain_up}
 use Rattle.report_laws.proofs.Aside.{AreAside, IsUnmoved, LeavesFront, leaves_front, aside_unready, aside_unanswered, aside_within, shows_unready}
 use Rattle.report_laws.proofs.Counts.{CountsAt, with_told, front_counts}
 use Rattle.report_laws.proofs.Epochs.{AreWithin, epoch_on, epoch_begins, shows_within}
@@ -75,7 +75,7 @@ told_counted before shown (Some (told.Answer id status)) = sum_by-append (λ (x 
 abbrev CountsIn : ℕ → List Line → View → Type 0
 CountsIn start ls v = CountsAt start (told_in ls) v.start v.ring.indices.cons v.stage
 
-front_counts_on : (start : ℕ) (w : World) (ls : List Line) (a : FrontAct) → IsSafe w → CountsIn start ls w.front → CountsIn start (ls ++ front_shows w (Some a)) (let x : World = front_after w (Some a) in x.front)
+front_counts_on : (start : ℕ) (w : World) (ls : List Line) (a : FrontAct) → IsSafeKeeping w → CountsIn start ls w.front → CountsIn start (ls ++ front_shows w (Some a)) (let x : World = front_after w (Some a) in x.front)
 front_counts_on start w ls a safe h =
     let v : View = step_of w.front a.answer in
     subst (λ (n : ℕ). CountsAt start n v.start v.ring.indices.cons v.stage) (sym (told_counted ls a.shown v.told))
@@ -171,7 +171,7 @@ none_counts : (start : ℕ) (before : List Line) (v : View) → IsCountedFor sta
 none_counts start before v was = subst (λ (ls : List Line). IsCountedFor start ls v) (sym (append-nil before)) was
 
 -- a move of the front
-front_counts_to : (start : ℕ) (w : World) (before : List Line) (act : Option FrontAct) → IsSafe w → CountsTo start before w → CountsTo start (before ++ front_shows w act) (front_after w act)
+front_counts_to : (start : ℕ) (w : World) (before : List Line) (act : Option FrontAct) → IsSafeKeeping w → CountsTo start before w → CountsTo start (before ++ front_shows w act) (front_after w act)
 front_counts_to start w before None safe was = none_counts start before w.front was
 front_counts_to start w before (Some a) safe was = record { begins = start_front w.front a.answer ∙ was.begins; counts = by_counts was.counts }
   where
@@ -232,20 +232,14 @@ aside_counts start v v' before ls same all was = record { begins = same.start �
     by_counts (inl h) = inl (counts_on start before ls v' (aside_within ls all) (same_counts start v v' (this_epoch before) ls (aside_unanswered ls all) same h))
     by_counts (inr past) = inr (past_on before ls v.stage v'.stage (aside_within ls all) (aside_unready ls all) (ap is_open same.stage ∙ past.over) past)
 
-one_counts : (start : ℕ) (w : World) (before : List Line) (h : Happening) → start < 2 ^ 32 → IsSafe w → CountsTo start before w → CountsTo start (before ++ lines_at w h) (happens w h)
-one_counts start w before FrontMoves fits safe was = front_counts_to start w before (front_turn w) safe was
-one_counts start w before (FrontEnters s) fits safe was = enters_counts start s w.front before was
-one_counts start w before Suspends fits safe was =
+one_counts : (start : ℕ) (before : List Line) (w : World) (h : KeepingHappening) → start < 2 ^ 32 → IsSafeKeeping w → CountsTo start before w → CountsTo start (before ++ shows_keeping w h) (happens_keeping w h)
+one_counts start before w (Plainly FrontMoves) fits safe was = front_counts_to start w before (front_turn w) safe was
+one_counts start before w (Plainly (FrontEnters s)) fits safe was = enters_counts start s w.front before was
+one_counts start before w (Plainly Suspends) fits safe was =
     suspend_cases (λ v shown. CountsTo start (before ++ shown) v) w (λ may. suspended_counts start w.front before fits was.begins) (none_counts start before w.front was)
-one_counts start w before h fits safe was =
-    let is : LeavesFront w (happens w h) (lines_at w h) = leaves_front w h tt in
-    aside_counts start w.front (let x : World = happens w h in x.front) before (lines_at w h) is.front is.lines was
-
-all_count : (start : ℕ) (history : List Happening) (w : World) (before : List Line) → start < 2 ^ 32 → IsSafe w → CountsTo start before w → CountsTo start (before ++ lines_of history w) (after history w)
-all_count start [] w before fits safe was = none_counts start before w.front was
-all_count start (h ∷ history) w before fits safe was =
-    subst (λ (ls : List Line). CountsTo start ls (after history (happens w h))) (append_assoc before (lines_at w h) (lines_of history (happens w h)))
-    (all_count start history (happens w h) (before ++ lines_at w h) fits (safe_happens w h safe) (one_counts start w before h fits safe was))
+one_counts start before w h fits safe was =
+    let is : LeavesFront w (happens_keeping w h) (shows_keeping w h) = leaves_front w h tt in
+    aside_counts start w.front (let x : World = happens_keeping w h in x.front) before (shows_keeping w h) is.front is.lines was
 
 -- so where this epoch says `ready` the front took as many responses as it told answers, but for one whose grants are being ended
 pub report_counts : (config : Options) (detail : Detail) (history : List Happening) → IsPlain config → list_any says_ready (this_epoch (report_of config detail history)) ≡ true
@@ -258,7 +252,9 @@ report_counts config detail history plain ready = by_counts is.counts
     is : CountsTo config.start (report_of config detail history) w
     is =
         let first = plain.start in
-        all_count config.start history (start_of config) (lines.Begin config detail ∷ []) first (safe_start config) (record { begins = refl; counts = inl (omega arith, refl) })
+        plain_up (CountsTo config.start) config detail history
+        (report_always (CountsTo config.start) (λ before v h safe any was. one_counts config.start before v h first safe was) config detail (map Plainly history)
+        (record { begins = refl; counts = inl (omega arith, refl) }))
 
     by_counts : CountsIn config.start (this_epoch (report_of config detail history)) w.front ⊎ WasOver (report_of config detail history) w.front.stage → CountsIn config.start (this_epoch (report_of config detail history)) w.front
     by_counts (inl h) = h

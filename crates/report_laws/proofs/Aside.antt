@@ -9,13 +9,17 @@ use Rattle.blk_front.specs.declared.told.Told.{Told}
 use Rattle.blk_front.specs.declared.told.Told.TheVariants as told
 use Rattle.blk_front.specs.View.{View}
 use Rattle.blk_front.specs.Step.{step_of}
+use Rattle.blk_back.specs.Ask.{is_led}
 use Rattle.report_rules.specs.Standing.{is_epoch}
 use Rattle.split_model.specs.World.{World}
 use Rattle.split_model.specs.Shown.{front_lines}
-use Rattle.split_model.specs.Happening.{Happening, FrontMoves, BackMoves, JobMoves, FrontEnters, Submits, Suspends, happens, lines_at, front_shows, back_after, job_after, back_turn, job_turn}
-use Rattle.split_model.proofs.Showing.{MayShow, lines_are}
+use Rattle.split_model.specs.Happening.{Happening, FrontMoves, BackMoves, JobMoves, FrontEnters, Submits, Suspends, front_shows, back_turn}
+use Rattle.split_model.specs.Kept.{KeepingHappening, Plainly, BackOffers, BackKeeps, offered, kept_so, reads_keeping, back_after_keeping, job_turn_keeping, job_after_keeping, plainly_after, happens_keeping, shows_keeping}
+use Rattle.split_model.proofs.Showing.{MayShow}
 use Rattle.report_laws.specs.Ready.{says_ready, says_over}
 use Rattle.report_laws.specs.QuietRing.{says_answer}
+use Rattle.move_laws.proofs.KeptLines.{either_world}
+use Rattle.report_laws.proofs.KeptReports.{as_plain, keeping_are}
 use Rattle.report_laws.proofs.Epochs.{AreWithin}
 use Rattle.report_laws.proofs.Submitted.{submit_cases}
 
@@ -77,25 +81,30 @@ one_aside h (lines.Answer id status) aside shows = absurd (assumption)
 one_aside h lines.Epoch aside shows = absurd (assumption)
 one_aside h line aside shows = record { unready = refl; going = refl; unanswered = refl; within = refl }
 
-back_unmoved : (w : World) (act : Option BackAct) → (let x : World = back_after w act in IsUnmoved w.front x.front)
+back_unmoved : (w : World) (act : Option BackAct) → (let x : World = back_after_keeping w act in IsUnmoved w.front x.front)
 back_unmoved w None = unmoved w.front
 back_unmoved w (Some a) = unmoved w.front
 
-job_unmoved : (w : World) (number : ℕ) (act : Option BackAct) → (let x : World = job_after w number act in IsUnmoved w.front x.front)
+job_unmoved : (w : World) (number : ℕ) (act : Option BackAct) → (let x : World = job_after_keeping w number act in IsUnmoved w.front x.front)
 job_unmoved w number None = unmoved w.front
 job_unmoved w number (Some a) = unmoved w.front
 
-front_unmoved : (w : World) (h : Happening) → IsAside h → (let x : World = happens w h in IsUnmoved w.front x.front)
+front_unmoved : (w : World) (h : Happening) → IsAside h → (let x : World = plainly_after w h in IsUnmoved w.front x.front)
 front_unmoved w FrontMoves aside = absurd aside
 front_unmoved w (FrontEnters state) aside = absurd aside
 front_unmoved w Suspends aside = absurd aside
 front_unmoved w BackMoves aside = back_unmoved w (back_turn w Took)
-front_unmoved w (JobMoves number outcome) aside = job_unmoved w number (job_turn w number outcome)
+front_unmoved w (JobMoves number outcome) aside = job_unmoved w number (job_turn_keeping w number outcome)
 front_unmoved w (Submits job) aside = submit_cases (IsUnmoved w.front) w.front (unmoved w.front) (λ wish taken. record { stage = refl; start = refl; cons = refl }) job
 front_unmoved w h aside = unmoved w.front
 
-pub leaves_front : (w : World) (h : Happening) → IsAside h → LeavesFront w (happens w h) (lines_at w h)
-leaves_front w h aside = record { front = front_unmoved w h aside; lines = lines_are IsAsideLine w h (λ line shows. one_aside h line aside shows) }
+keeping_unmoved : (w : World) (h : KeepingHappening) → IsAside (as_plain h) → (let x : World = happens_keeping w h in IsUnmoved w.front x.front)
+keeping_unmoved w (Plainly h) aside = front_unmoved w h aside
+keeping_unmoved w BackOffers aside = either_world (λ (x : World). IsUnmoved w.front x.front) (is_led w.back.stage) (offered w) w (λ led. unmoved w.front) (unmoved w.front)
+keeping_unmoved w (BackKeeps cap) aside = either_world (λ (x : World). IsUnmoved w.front x.front) (reads_keeping w cap) (kept_so w cap) w (λ reads. unmoved w.front) (unmoved w.front)
+
+pub leaves_front : (w : World) (h : KeepingHappening) → IsAside (as_plain h) → LeavesFront w (happens_keeping w h) (shows_keeping w h)
+leaves_front w h aside = record { front = keeping_unmoved w h aside; lines = keeping_are IsAsideLine w h (λ line shows. one_aside (as_plain h) line aside shows) }
 
 -- a move of the front doesn't say that it is connected
 front_unready : (t : Option Told) → list_any says_ready (front_lines t) ≡ false

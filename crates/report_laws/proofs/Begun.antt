@@ -1,6 +1,6 @@
 -- Every report begins with one `begin` line, and shows moves where that says so.
 use Rattle.std.proofs.Common.{◌≡◌, false, List, [], ◌∷◌, ◌++◌, refl, ap, sym, subst, true≢false}
-use Rattle.std.specs.Prelude.{All}
+use Rattle.std.specs.Prelude.{All, map}
 use Rattle.std.specs.List.{AllByRecursion}
 use Rattle.std.proofs.lemmas.List.Elements.{All-from_recursion, recursion_from_All}
 use Rattle.blk_base.specs.Options.{Options}
@@ -10,11 +10,14 @@ use Rattle.schedule_text.specs.declared.line.Line.{Line}
 use Rattle.schedule_text.specs.declared.line.Line.TheVariants as lines
 use Rattle.schedule_text.specs.Recorder.{recorded}
 use Rattle.split_model.specs.World.{start_of}
-use Rattle.split_model.specs.Happening.{Happening, lines_of}
+use Rattle.split_model.specs.Happening.{Happening}
+use Rattle.split_model.specs.Kept.{KeepingHappening, Plainly, lines_keeping}
 use Rattle.schedule_text.specs.Recorder.{kept_of}
 use Rattle.split_model.specs.Report.{report_of, ended_report_of}
+use Rattle.move_laws.specs.Kept.{report_keeping, ended_report_keeping}
 use Rattle.report_laws.specs.Begun.{is_begin, is_move, IsBegun, IsBegunSoFar}
 use Rattle.split_model.proofs.Showing.{both_all}
+use Rattle.report_laws.proofs.KeptReports.{plain_report, plain_ended}
 use Rattle.report_laws.proofs.Lines.{AreLater, both_later, all_later}
 
 abbrev AreUnmoved : List Line → Type 0
@@ -46,12 +49,19 @@ begun_with config detail ls all = record {
   unmoved = λ same. All-from_recursion (λ (line : Line). is_move line ≡ false) (kept_of detail ls) (subst (λ (d : Detail). AreUnmoved (kept_of d ls)) (sym same) (kept_unmoved ls));
 }
 
+pub report_begun_keeping : (config : Options) (detail : Detail) (history : List KeepingHappening) → IsBegun config detail (kept_of detail (report_keeping config detail history))
+report_begun_keeping config detail history = begun_with config detail (lines_keeping history (start_of config)) (all_later history (start_of config))
+
+pub ended_begun_keeping : (config : Options) (detail : Detail) (history : List KeepingHappening) → IsBegun config detail (kept_of detail (ended_report_keeping config detail history))
+ended_begun_keeping config detail history =
+    begun_with config detail (lines_keeping history (start_of config) ++ lines.End ∷ []) (both_later (lines_keeping history (start_of config)) (lines.End ∷ []) (all_later history (start_of config)) (refl, tt))
+
+-- where none are kept
 pub report_begun : (config : Options) (detail : Detail) (history : List Happening) → IsBegun config detail (kept_of detail (report_of config detail history))
-report_begun config detail history = begun_with config detail (lines_of history (start_of config)) (all_later history (start_of config))
+report_begun config detail history = plain_report (λ ls. IsBegun config detail (kept_of detail ls)) config detail history (report_begun_keeping config detail (map Plainly history))
 
 pub ended_begun : (config : Options) (detail : Detail) (history : List Happening) → IsBegun config detail (kept_of detail (ended_report_of config detail history))
-ended_begun config detail history =
-    begun_with config detail (lines_of history (start_of config) ++ lines.End ∷ []) (both_later (lines_of history (start_of config)) (lines.End ∷ []) (all_later history (start_of config)) (refl, tt))
+ended_begun config detail history = plain_ended (λ ls. IsBegun config detail (kept_of detail ls)) config detail history (ended_begun_keeping config detail (map Plainly history))
 
 -- the first of all lines
 pub all_first : (P : Line → Type 0) (a b : List Line) → AllByRecursion P (a ++ b) → AllByRecursion P a

@@ -1,6 +1,6 @@
 -- The front makes one port at most in an epoch: the moves that make one are as many as the ports of this epoch.
 use Rattle.std.proofs.Common.{◌≡◌, ℕ, ◌+◌, ◌≤◌, Bool, true, false, cond, ◌||◌, if◌then◌else◌, List, [], ◌∷◌, ◌++◌, length, refl, ap, sym, ◌∙◌, subst, append_assoc, length-append, length-set, arith}
-use Rattle.std.specs.Prelude.{Option, Some, None, count_by}
+use Rattle.std.specs.Prelude.{Option, Some, None, count_by, map}
 use Rattle.std.specs.List.{AllByRecursion}
 use Rattle.std.proofs.lemmas.List.Sums.{sum_by_push}
 use Rattle.std.proofs.lemmas.List.{append-nil, length-map}
@@ -26,19 +26,22 @@ use Rattle.blk_front.specs.Ask as front_ends
 use Rattle.blk_front.specs.Step as front_step
 use Rattle.blk_back.specs.View as back
 use Rattle.blk_back.specs.Ask as back_ends
-use Rattle.blk_back.specs.Step as back_step
+use Rattle.blk_back.specs.Ask.{is_led}
+use Rattle.blk_back.specs.Keeping.{step_keeping, job_step_keeping, job_ask_keeping}
 use Rattle.report_rules.specs.Standing.{is_epoch, this_epoch}
 use Rattle.report_rules.proofs.Back.{epoch_more}
 use Rattle.split_model.specs.World.{World, start_of}
-use Rattle.split_model.specs.Safe.{IsSafe}
 use Rattle.split_model.specs.Shown.{front_lines, back_lines, halt_lines}
-use Rattle.split_model.specs.Happening.{Happening, FrontMoves, BackMoves, JobMoves, FrontEnters, BackAttaches, BackHalts, Submits, Suspends, happens, lines_at, lines_of, front_after, front_shows, back_after, back_shows, job_after, job_shows, front_turn, back_turn, job_turn}
+use Rattle.split_model.specs.Happening.{Happening, FrontMoves, BackMoves, JobMoves, FrontEnters, BackAttaches, BackHalts, Submits, Suspends, happens, front_after, front_shows, front_turn, back_turn}
+use Rattle.split_model.specs.Kept.{KeepingHappening, Plainly, BackOffers, BackKeeps, offered, kept_so, reads_keeping, back_after_keeping, back_shows_keeping, job_turn_keeping, job_after_keeping, job_shows_keeping, plainly_after, plainly_shows, happens_keeping, shows_keeping, after_keeping, IsSafeKeeping}
 use Rattle.split_model.specs.Report.{report_of, ended_report_of}
 use Rattle.split_model.proofs.SafeAnswers.{IsFronts, fronts_at}
 use Rattle.split_model.proofs.Suspending.{suspend_cases}
-use Rattle.split_model.proofs.Safe.{safe_start, safe_happens}
+use Rattle.move_laws.specs.Kept.{report_keeping, ended_report_keeping}
+use Rattle.move_laws.proofs.KeptLines.{either_world, plainly_are}
+use Rattle.report_laws.proofs.KeptReports.{as_plain, keeping_are, report_always, plain_report, plain_ended}
 use Rattle.report_laws.specs.Ports.{makes_port, ports_made, IsFewPortsAt, AreFewPorts}
-use Rattle.split_model.proofs.Showing.{IsTold, MayShow, lines_are, front_told_is, back_told_is, halt_is, both_all}
+use Rattle.split_model.proofs.Showing.{IsTold, MayShow, front_told_is, back_told_is, halt_is, both_all}
 use Rattle.split_model.proofs.Acting.{FrontPort, FrontClose, front_acts, BackBind, BackClose, back_acts}
 use Rattle.split_model.proofs.Outside.{LeavesEnds, leaves_ends, KeepsPorts, sent_keeps}
 
@@ -143,7 +146,7 @@ pub record IsCounted (h : Hypervisor) (ls : List Line) (h' : Hypervisor) : Type 
 uncounted : (h h' : Hypervisor) (ls : List Line) → MakeNone ls → ports_of h' ≡ ports_of h → IsCounted h ls h'
 uncounted h h' ls all same = record { told = none_made (ports_of h) ls all ∙ sym same; few = λ few. (none_thrifty (ports_of h) ls all few, omega arith) }
 
-front_counted : (w : World) (act : Option FrontAct) → IsSafe w → front_turn w ≡ act → IsCounted w.under (front_shows w act) (let x : World = front_after w act in x.under)
+front_counted : (w : World) (act : Option FrontAct) → IsSafeKeeping w → front_turn w ≡ act → IsCounted w.under (front_shows w act) (let x : World = front_after w act in x.under)
 front_counted w None safe e = uncounted w.under w.under [] tt refl
 front_counted w (Some a) safe e =
     let is : IsTallied w.under a = front_tallied w.under (front_ends.ask_of w.front) a (fronts_at w.under.channels w.front.stage w.front safe.ported) e in
@@ -155,54 +158,79 @@ front_counted w (Some a) safe e =
       few = λ few. ((few, subst (λ (n : ℕ). AreThrifty n follow) (sym is.told) (none_thrifty (ports_of a.under) follow none (is.few few))), is.few few);
     }
 
-back_counted : (w : World) (act : Option BackAct) → back_turn w Took ≡ act → IsCounted w.under (back_shows w act) (let x : World = back_after w act in x.under)
+back_counted : (w : World) (act : Option BackAct) → back_turn w Took ≡ act → IsCounted w.under (back_shows_keeping w act) (let x : World = back_after_keeping w act in x.under)
 back_counted w None e = uncounted w.under w.under [] tt refl
 back_counted w (Some a) e =
-    let b : back.View = back_step.step_of w.back a.answer in
+    let b : back.View = step_keeping w.back a.answer in
     let is : BackMakesNone w.under a = back_none w.under back_mover.Back (back_ends.ask_of w.back) Took a e in
-    uncounted w.under a.under (back_shows w (Some a)) (
+    uncounted w.under a.under (back_shows_keeping w (Some a)) (
       is.told,
       both_all MakesNone (back_lines b.told a.answer) (halt_lines w.back.halted b.halted) (back_told_is MakesNone (one_none BackMoves) b.told a.answer)
           (halt_is MakesNone (λ why. refl) w.back.halted b.halted),
     ) is.same
 
-job_counted : (w : World) (k : ℕ) (o : Outcome) (act : Option BackAct) → job_turn w k o ≡ act → IsCounted w.under (job_shows w k act) (let x : World = job_after w k act in x.under)
+job_counted : (w : World) (k : ℕ) (o : Outcome) (act : Option BackAct) → job_turn_keeping w k o ≡ act → IsCounted w.under (job_shows_keeping w k act) (let x : World = job_after_keeping w k act in x.under)
 job_counted w k o None e = uncounted w.under w.under [] tt refl
 job_counted w k o (Some a) e =
-    let b : back.View = back_step.job_step w.back k a.answer in
-    let is : BackMakesNone w.under a = back_none w.under (back_mover.Job k) (back_step.job_ask_of w.back k) o a e in
-    uncounted w.under a.under (job_shows w k (Some a)) (is.told, back_told_is MakesNone (one_none BackMoves) b.told a.answer) is.same
+    let b : back.View = job_step_keeping w.back k a.answer in
+    let is : BackMakesNone w.under a = back_none w.under (back_mover.Job k) (job_ask_keeping w.back k) o a e in
+    uncounted w.under a.under (job_shows_keeping w k (Some a)) (is.told, back_told_is MakesNone (one_none BackMoves) b.told a.answer) is.same
 
 unshown : (w : World) (h : Happening) → ((line : Line) → MakesNo h line)
-    → (let x : World = happens w h in ports_of x.under ≡ ports_of w.under) → IsCounted w.under (lines_at w h) (let x : World = happens w h in x.under)
-unshown w h makes same = uncounted w.under _ (lines_at w h) (lines_are MakesNone w h (λ line shows. one_none h line (makes line) shows)) same
+    → (let x : World = plainly_after w h in ports_of x.under ≡ ports_of w.under) → IsCounted w.under (plainly_shows w h) (let x : World = plainly_after w h in x.under)
+unshown w h makes same = uncounted w.under _ (plainly_shows w h) (plainly_are MakesNone w h (λ line shows. one_none h line (makes line) shows)) same
 
-pub one_counted : (w : World) (h : Happening) → IsSafe w → IsCounted w.under (lines_at w h) (let x : World = happens w h in x.under)
-one_counted w FrontMoves safe = front_counted w (front_turn w) safe refl
-one_counted w BackMoves safe = back_counted w (back_turn w Took) refl
-one_counted w (JobMoves number outcome) safe = job_counted w number outcome (job_turn w number outcome) refl
-one_counted w (FrontEnters state) safe = unshown w (FrontEnters state) (λ line. tt) refl
-one_counted w (BackAttaches shape grefs port) safe = unshown w (BackAttaches shape grefs port) (λ line. tt) refl
-one_counted w (BackHalts why) safe = unshown w (BackHalts why) (λ line. tt) refl
-one_counted w (Submits job) safe = unshown w (Submits job) (λ line. tt) refl
-one_counted w Suspends safe =
+plainly_counted : (w : World) (h : Happening) → IsSafeKeeping w → IsCounted w.under (plainly_shows w h) (let x : World = plainly_after w h in x.under)
+plainly_counted w FrontMoves safe = front_counted w (front_turn w) safe refl
+plainly_counted w BackMoves safe = back_counted w (back_turn w Took) refl
+plainly_counted w (JobMoves number outcome) safe = job_counted w number outcome (job_turn_keeping w number outcome) refl
+plainly_counted w (FrontEnters state) safe = unshown w (FrontEnters state) (λ line. tt) refl
+plainly_counted w (BackAttaches shape grefs port) safe = unshown w (BackAttaches shape grefs port) (λ line. tt) refl
+plainly_counted w (BackHalts why) safe = unshown w (BackHalts why) (λ line. tt) refl
+plainly_counted w (Submits job) safe = unshown w (Submits job) (λ line. tt) refl
+plainly_counted w Suspends safe =
     suspend_cases (λ v shown. IsCounted w.under shown v.under) w
     (λ may. record { told = refl; few = λ few. ((few, omega arith), omega arith) }) (uncounted w.under w.under [] tt refl)
-one_counted w h safe =
+plainly_counted w h safe =
     let left : LeavesEnds w (happens w h) = leaves_ends w h tt in
     let kept : KeepsPorts w.under.channels (let x : World = happens w h in x.under.channels) = sent_keeps w.under.channels _ left.channels in
     unshown w h (λ line. tt) (ap (λ (ps : List PortState). length ps) kept.ports)
 
--- so all that happens makes one at most in each epoch
-all_few : (history : List Happening) (w : World) → IsSafe w → ports_of w.under ≤ 1 → AreThrifty (ports_of w.under) (lines_of history w)
-all_few [] w safe few = few
-all_few (h ∷ history) w safe few =
-    let one : IsCounted w.under (lines_at w h) (let x : World = happens w h in x.under) = one_counted w h safe in
-    let rest = all_few history (happens w h) (safe_happens w h safe) (one.few few).1 in
-    thrifty_append (ports_of w.under) (lines_at w h) (lines_of history (happens w h)) (one.few few).0 (subst (λ (n : ℕ). AreThrifty n (lines_of history (happens w h))) (sym one.told) rest)
+-- what the back does with the keys for kept mappings
+keys_counted : (w : World) (h : KeepingHappening) → ((line : Line) → MakesNo (as_plain h) line) → (let x : World = happens_keeping w h in ports_of x.under ≡ ports_of w.under)
+    → IsCounted w.under (shows_keeping w h) (let x : World = happens_keeping w h in x.under)
+keys_counted w h makes same = uncounted w.under _ (shows_keeping w h) (keeping_are MakesNone w h (λ line shows. one_none (as_plain h) line (makes line) shows)) same
 
-report_once : (config : Options) (detail : Detail) (history : List Happening) → AreThrifty 0 (report_of config detail history)
-report_once config detail history = (omega arith, all_few history (start_of config) (safe_start config) (omega arith))
+pub one_counted : (w : World) (h : KeepingHappening) → IsSafeKeeping w → IsCounted w.under (shows_keeping w h) (let x : World = happens_keeping w h in x.under)
+one_counted w (Plainly h) safe = plainly_counted w h safe
+one_counted w BackOffers safe =
+    keys_counted w BackOffers (λ line. tt) (either_world (λ (x : World). ports_of x.under ≡ ports_of w.under) (is_led w.back.stage) (offered w) w (λ led. refl) refl)
+one_counted w (BackKeeps cap) safe =
+    keys_counted w (BackKeeps cap) (λ line. tt) (either_world (λ (x : World). ports_of x.under ≡ ports_of w.under) (reads_keeping w cap) (kept_so w cap) w (λ reads. refl) refl)
+
+-- so all that happens makes one at most in each epoch
+record IsThrifty (before : List Line) (w : World) : Type 0 where
+  thrifty : AreThrifty 0 before
+  told : count_after 0 before ≡ ports_of w.under
+
+last_thrifty : (n : ℕ) (ls : List Line) → AreThrifty n ls → count_after n ls ≤ 1
+last_thrifty n [] h = h
+last_thrifty n (line ∷ ls) h = last_thrifty (next_count n line) ls h.1
+
+one_thrifty : (before : List Line) (w : World) (h : KeepingHappening) → IsSafeKeeping w → IsThrifty before w → IsThrifty (before ++ shows_keeping w h) (happens_keeping w h)
+one_thrifty before w h safe is =
+    let one : IsCounted w.under (shows_keeping w h) (let x : World = happens_keeping w h in x.under) = one_counted w h safe in
+    let few : ports_of w.under ≤ 1 = subst (λ (n : ℕ). n ≤ 1) is.told (last_thrifty 0 before is.thrifty) in
+    record {
+      thrifty = thrifty_append 0 before (shows_keeping w h) is.thrifty (subst (λ (n : ℕ). AreThrifty n (shows_keeping w h)) (sym is.told) (one.few few).0);
+      told = count_append 0 before (shows_keeping w h) ∙ (ap (λ (n : ℕ). count_after n (shows_keeping w h)) is.told ∙ one.told);
+    }
+
+report_once : (config : Options) (detail : Detail) (history : List KeepingHappening) → AreThrifty 0 (report_keeping config detail history)
+report_once config detail history =
+    let is : IsThrifty (report_keeping config detail history) (after_keeping history (start_of config)) =
+    report_always IsThrifty (λ before w h safe any was. one_thrifty before w h safe was) config detail history (record { thrifty = (omega arith, omega arith); told = refl }) in
+    is.thrifty
 
 -- what a recorder keeps makes no more: each line or none
 fewer_thrifty : (ls : List Line) (n m : ℕ) → m ≤ n → AreThrifty n ls → AreThrifty m ls
@@ -247,10 +275,6 @@ rest_thrifty : (n : ℕ) (before : List Line) (line : Line) (after : List Line) 
 rest_thrifty n [] line after h = h.0
 rest_thrifty n (first ∷ before) line after h = rest_thrifty (next_count n first) before line after h.1
 
-last_thrifty : (n : ℕ) (ls : List Line) → AreThrifty n ls → count_after n ls ≤ 1
-last_thrifty n [] h = h
-last_thrifty n (line ∷ ls) h = last_thrifty (next_count n line) ls h.1
-
 few_at : (before : List Line) (line : Line) → ports_made before ≤ 1 → IsFewPortsAt before line
 few_at before (lines.Move (moves.FrontPort port)) few = omega arith
 few_at before line few = tt
@@ -260,13 +284,21 @@ once_few report thrifty before after line e =
     let so_far : count_after 0 before ≤ 1 = rest_thrifty 0 before line after (subst (AreThrifty 0) e thrifty) in
     few_at before line (subst (λ (n : ℕ). n ≤ 1) (sym (made_by before [] 0 refl)) so_far)
 
-pub report_ports : (config : Options) (detail : Detail) (history : List Happening) → AreFewPorts (kept_of detail (report_of config detail history))
-report_ports config detail history = once_few (kept_of detail (report_of config detail history)) (kept_few detail (report_of config detail history) 0 (report_once config detail history))
+pub report_ports_keeping : (config : Options) (detail : Detail) (history : List KeepingHappening) → AreFewPorts (kept_of detail (report_keeping config detail history))
+report_ports_keeping config detail history = once_few (kept_of detail (report_keeping config detail history)) (kept_few detail (report_keeping config detail history) 0 (report_once config detail history))
 
-ended_once : (config : Options) (detail : Detail) (history : List Happening) → AreThrifty 0 (ended_report_of config detail history)
+ended_once : (config : Options) (detail : Detail) (history : List KeepingHappening) → AreThrifty 0 (ended_report_keeping config detail history)
 ended_once config detail history =
-    thrifty_append 0 (report_of config detail history) (lines.End ∷ []) (report_once config detail history)
-    (let few = last_thrifty 0 (report_of config detail history) (report_once config detail history) in (few, few))
+    thrifty_append 0 (report_keeping config detail history) (lines.End ∷ []) (report_once config detail history)
+    (let few = last_thrifty 0 (report_keeping config detail history) (report_once config detail history) in (few, few))
+
+pub ended_ports_keeping : (config : Options) (detail : Detail) (history : List KeepingHappening) → AreFewPorts (kept_of detail (ended_report_keeping config detail history))
+ended_ports_keeping config detail history =
+    once_few (kept_of detail (ended_report_keeping config detail history)) (kept_few detail (ended_report_keeping config detail history) 0 (ended_once config detail history))
+
+-- where none are kept
+pub report_ports : (config : Options) (detail : Detail) (history : List Happening) → AreFewPorts (kept_of detail (report_of config detail history))
+report_ports config detail history = plain_report (λ ls. AreFewPorts (kept_of detail ls)) config detail history (report_ports_keeping config detail (map Plainly history))
 
 pub ended_ports : (config : Options) (detail : Detail) (history : List Happening) → AreFewPorts (kept_of detail (ended_report_of config detail history))
-ended_ports config detail history = once_few (kept_of detail (ended_report_of config detail history)) (kept_few detail (ended_report_of config detail history) 0 (ended_once config detail history))
+ended_ports config detail history = plain_ended (λ ls. AreFewPorts (kept_of detail ls)) config detail history (ended_ports_keeping config detail (map Plainly history))

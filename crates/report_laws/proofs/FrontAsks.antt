@@ -19,7 +19,8 @@ use Rattle.blk_front.specs.Ask.{is_through, ask_at, ask_of, data_ask, page_ask, 
 use Rattle.split_model.specs.Safe.{IsPorted}
 use Rattle.report_laws.proofs.Words.{each_fits}
 use Rattle.report_laws.proofs.Acts.{FrontFits}
-use Rattle.report_laws.proofs.FrontNumbers.{HasWords, IsFit, AreShared, flags_few, words_fit, next_holds, issued_entry}
+use Rattle.report_laws.proofs.FrontNumbers.{HasWords, IsFit, AreShared, next_holds, issued_entry}
+use Rattle.report_laws.proofs.FrontWords.{flags_few, words_fit}
 
 fresh_fits : (start k : ℕ) → start < 2 ^ 32 → fresh_word start k < 2 ^ 32
 fresh_fits start k small = by_tests (k == 0) (k == 1) (k == 2) (k == 3)

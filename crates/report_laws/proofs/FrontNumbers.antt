@@ -1,34 +1,25 @@
 -- The numbers that the front keeps have the widths of the grammar, and so has what it tells and answers, whatever word it reads.
-use Rattle.std.proofs.Common.{◌≡◌, ℕ, zero, suc, ◌≤◌, ◌+◌, ◌-◌, ◌*◌, ◌/◌, ◌%◌, ◌^◌, ◌<◌, Bool, true, false, not, if◌then◌else◌, List, [], ◌∷◌, length, take, map, refl, arith, length-set}
-use Rattle.std.specs.Prelude.{◌&&◌, max, min, All, Option, Some, None, IfSome, Result, Ok, Err, nat_lt, nat_le, ◌==◌, slice_get, slice_set, slice_index, position}
+use Rattle.std.proofs.Common.{◌≡◌, ℕ, suc, ◌≤◌, ◌+◌, ◌-◌, ◌*◌, ◌/◌, ◌%◌, ◌^◌, ◌<◌, Bool, true, false, if◌then◌else◌, List, [], ◌∷◌, length, take, refl, arith, length-set}
+use Rattle.std.specs.Prelude.{All, Option, Some, None, IfSome, Result, Ok, Err, nat_lt, ◌==◌, slice_get, slice_set, slice_index, position}
 use Rattle.std.specs.Option.{option_map}
-use Rattle.std.specs.List.{AllByRecursion, range_with_len}
+use Rattle.std.specs.List.{AllByRecursion}
 use Rattle.std.proofs.lemmas.Bool.Decides.{nat_tests}
 use Rattle.std.proofs.lemmas.Option.{none-some}
 use Rattle.std.proofs.lemmas.List.{length-replicate}
-use Rattle.std.proofs.lemmas.List.Elements.{All-nil, All-push, All-append, All-take, All-drop, All-set, All-replicate}
+use Rattle.std.proofs.lemmas.List.Elements.{All-nil, All-append, All-take, All-drop, All-set, All-replicate}
 use Rattle.blk_base.specs.Options.{Options}
 use Rattle.blk_base.specs.Distance.{distance_of}
-use Rattle.blk_base.specs.declared.operation.Abi.{Abi}
-use Rattle.blk_base.specs.declared.operation.Abi.TheVariants.{X64, X32}
-use Rattle.blk_base.specs.declared.config.Submission.{Submission}
-use Rattle.blk_base.specs.declared.config.Submission.TheVariants as submissions
 use Rattle.blk_base.specs.declared.operation.Status.{Status}
 use Rattle.blk_base.specs.declared.ask.FrontAnswer.{FrontAnswer}
 use Rattle.blk_base.specs.declared.ask.FrontAnswer.TheVariants as answer
 use Rattle.ring_words.specs.Ring.{responses_of, notifies}
-use Rattle.ring_words.specs.Shape.{entries_of, entry_words_of}
+use Rattle.ring_words.specs.Shape.{entry_words_of}
 use Rattle.line_text.specs.Sector.{IsSector}
-use Rattle.blk_layout.specs.Entry.{words_of}
-use Rattle.blk_layout.specs.Written.{segment_words_of}
-use Rattle.blk_layout.specs.declared.request.RawRequest.TheVariants.{Direct, Discard, Indirect}
 use Rattle.blk_layout.specs.Response.{status_of, response_with, response_of}
 use Rattle.blk_layout.specs.declared.response.Response.{Response}
-use Rattle.blk_layout.specs.declared.segment.Segment.{Segment}
 use Rattle.schedule_text.specs.declared.line.Line.TheVariants as lines
-use Rattle.schedule_text.specs.Range.{IsInRange, SubmissionHasWidths, AreOptions}
+use Rattle.schedule_text.specs.Range.{AreOptions}
 use Rattle.blk_front.specs.declared.request.Request.{Request}
-use Rattle.blk_front.specs.declared.request.Wish.{Wish}
 use Rattle.blk_front.specs.declared.request.Transfer.{Transfer}
 use Rattle.blk_front.specs.declared.request.Transfer.TheVariants as transfer
 use Rattle.blk_front.specs.declared.stage.FrontStage.{FrontStage}
@@ -36,15 +27,10 @@ use Rattle.blk_front.specs.declared.stage.FrontStage.TheVariants as stage
 use Rattle.blk_front.specs.declared.stage.Ending.{Ending}
 use Rattle.blk_front.specs.declared.told.Told.{Told}
 use Rattle.blk_front.specs.declared.told.Told.TheVariants as told
-use Rattle.blk_base.specs.declared.refusal.Refusal.{Refusal}
-use Rattle.blk_base.specs.declared.refusal.Refusal.TheVariants as refusal
-use Rattle.blk_front.specs.Pool.{taking}
-use Rattle.blk_front.specs.Request.{operation_of, is_write, named_of, segments_of, grant_flags, has_data, frames_for, words_in, segment_in, segment_at, is_indirect, may_be_indirect, naming_words, reference_in, page_reference, page_references}
+use Rattle.blk_front.specs.Request.{named_of, has_data, words_in, is_indirect, naming_words}
 use Rattle.blk_front.specs.View.{View, next_request, start_of}
-use Rattle.blk_front.specs.Entry.{entry_as, entry_of}
+use Rattle.blk_front.specs.Entry.{entry_of}
 use Rattle.blk_front.specs.Step.{at, broken, looked, entered, begun, freed, revokes, answered, after_data, data_stage, page_stage, granted, loop_step, found_at, issued, response_at, is_mapped, ring_left, finished, ended, revoked, sector_told, data_step, left_step, step_at, step_of}
-use Rattle.blk_front.specs.Submit.{is_ready, unfinished, wished, wish_of, most_segments, frames_taken, request_with, submit_with, submit_one, submit_of}
-use Rattle.blk_front.specs.declared.state.Offers.{Offers}
 use Rattle.blk_front.specs.declared.state.FrontState.{FrontState}
 use Rattle.blk_front.specs.declared.state.FrontState.TheVariants as state
 use Rattle.blk_front.specs.State.{in_state, enters}
@@ -52,122 +38,14 @@ use Rattle.blk_front.specs.Suspend.{stage_after, ending_after, suspended}
 use Rattle.blk_front.proofs.Order.{after_all}
 use Rattle.split_model.specs.World.{World}
 use Rattle.split_model.specs.Shown.{front_lines, state_lines}
-use Rattle.split_model.specs.Happening.{enter_lines, submit_line}
+use Rattle.split_model.specs.Happening.{enter_lines}
 use Rattle.split_model.proofs.States.{enters_cases}
 use Rattle.split_model.proofs.Suspending.{front_cases}
-use Rattle.machine_pipeline.specs.Allowed.{IsServable, IsStated}
+use Rattle.machine_pipeline.specs.Allowed.{IsStated}
 use Rattle.machine_pipeline.proofs.Lists.{all_at}
 use Rattle.report_laws.proofs.Told.{AreGood, good}
 use Rattle.report_laws.proofs.Acts.{FrontTells}
-
--- the words of a request's entry
-high_half : (n : ℕ) → n < 2 ^ 64 → n / 2 ^ 32 * 1 + 0 < 2 ^ 32
-high_half n fits = omega arith
-
-low_half : (n : ℕ) → n % 2 ^ 32 * 1 + 0 < 2 ^ 32
-low_half n = omega arith
-
-none_fits : 0 < 2 ^ 32
-none_fits = omega arith
-
-pub flags_few : (way : Transfer) → grant_flags way ≤ 5
-flags_few (transfer.Write tag) = omega arith
-flags_few way = omega arith
-
--- a segment's words, and those of none
-segment_few : (count place : ℕ) (frame : Option ℕ) → ((f : ℕ) → frame ≡ Some f → f < 1018) → (let s : Segment = segment_in count place frame in (s.gref < 1024) × (s.first ≡ 0) × (s.last ≤ 7))
-segment_few count place None shared = (omega arith, refl, omega arith)
-segment_few count place (Some frame) shared = let low = shared frame refl in (omega arith, refl, omega arith)
-
-gref_fits : (r : Request) (place : ℕ) → All (λ (frame : ℕ). frame < 1018) r.frames.items → (let s : Segment = segment_at r place in s.gref * 1 + 0 < 2 ^ 32)
-gref_fits r place all = let few = segment_few r.count place (slice_get r.frames.items place) (λ f e. all_at (λ (frame : ℕ). frame < 1018) r.frames.items place f all e) in omega (arith, few.0)
-
-ends_fit : (r : Request) (place : ℕ) → All (λ (frame : ℕ). frame < 1018) r.frames.items → (let s : Segment = segment_at r place in s.first * 1 + (s.last * 256 + 0) < 2 ^ 32)
-ends_fit r place all = let few = segment_few r.count place (slice_get r.frames.items place) (λ f e. all_at (λ (frame : ℕ). frame < 1018) r.frames.items place f all e) in omega (arith, few.1, few.2)
-
--- as its indirect pages hold them
-pub words_fit : (r : Request) (place : ℕ) → All (λ (frame : ℕ). frame < 1018) r.frames.items → AllByRecursion (λ (v : ℕ). v < 2 ^ 32) (segment_words_of (segment_at r place))
-words_fit r place all =
-    let few = segment_few r.count place (slice_get r.frames.items place) (λ f e. all_at (λ (frame : ℕ). frame < 1018) r.frames.items place f all e) in
-    (omega (arith, few.0), (omega (arith, few.1, few.2), tt))
-
-operation_few : (way : Transfer) → operation_of way ≤ 5
-operation_few transfer.Read = omega arith
-operation_few other = omega arith
-
-first_fits : (op frames : ℕ) → op ≤ 5 → frames ≤ 11 → op * 1 + (frames * 256 + 3388997632) < 2 ^ 32
-first_fits op frames small few = omega arith
-
--- two words for each segment
-abbrev segment_words : List Segment → List ℕ
-segment_words [] = []
-segment_words (s ∷ segments) = (s.gref * 1 + 0) ∷ (s.first * 1 + (s.last * 256 + 0)) ∷ segment_words segments
-
-segments_fit : (r : Request) (places : List ℕ) → All (λ (frame : ℕ). frame < 1018) r.frames.items → AllByRecursion (λ (v : ℕ). v < 2 ^ 32) (segment_words (map (segment_at r) places))
-segments_fit r [] all = tt
-segments_fit r (place ∷ places) all = (gref_fits r place all, (ends_fit r place all, segments_fit r places all))
-
--- under each layout: the first word, one that is 0 where 64-bit fields need it, the id, the sector and eleven segments
-direct_words : (abi : Abi) (op : ℕ) (r : Request) → op ≤ 5 → r.number < 2 ^ 64 → r.sector < 2 ^ 64 → frames_for r.count ≤ 11 → All (λ (frame : ℕ). frame < 1018) r.frames.items
-    → AllByRecursion (λ (v : ℕ). v < 2 ^ 32) (words_of abi (Direct op (frames_for r.count) 51712 r.number r.sector (segments_of r)))
-unfolding words_of
-direct_words X64 op r small number sector few all =
-    (first_fits op (frames_for r.count) small few, (none_fits, (low_half r.number, (high_half r.number number, (low_half r.sector, (high_half r.sector sector, segments_fit r (range_with_len 0 11) all))))))
-direct_words X32 op r small number sector few all =
-    (first_fits op (frames_for r.count) small few, (low_half r.number, (high_half r.number number, (low_half r.sector, (high_half r.sector sector, segments_fit r (range_with_len 0 11) all)))))
-
--- a discard has its count in their place, and then zeros
-abbrev zeros : ℕ → List ℕ
-zeros zero = []
-zeros (suc n) = 0 ∷ zeros n
-
-zeros_fit : (n : ℕ) → AllByRecursion (λ (v : ℕ). v < 2 ^ 32) (zeros n)
-zeros_fit zero = tt
-zeros_fit (suc n) = (none_fits, zeros_fit n)
-
-discard_words : (abi : Abi) (number sector sectors : ℕ) → number < 2 ^ 64 → sector < 2 ^ 64 → sectors < 2 ^ 64 → AllByRecursion (λ (v : ℕ). v < 2 ^ 32) (words_of abi (Discard 0 51712 number sector sectors))
-unfolding words_of
-discard_words X64 number sector sectors numbered placed long =
-    (first_fits 5 0 (omega arith) (omega arith), (none_fits, (low_half number, (high_half number numbered, (low_half sector, (high_half sector placed, (low_half sectors, (high_half sectors long, zeros_fit 20))))))))
-discard_words X32 number sector sectors numbered placed long =
-    (first_fits 5 0 (omega arith) (omega arith), (low_half number, (high_half number numbered, (low_half sector, (high_half sector placed, (low_half sectors, (high_half sectors long, zeros_fit 20)))))))
-
--- one through indirect pages has their references, of which each is that of a frame or 0
-reference_fits : (r : Request) (page : ℕ) → All (λ (frame : ℕ). frame < 1018) r.frames.items → page_reference r page * 1 + 0 < 2 ^ 32
-reference_fits r page all = by_frame (slice_get r.frames.items (frames_for r.count + page)) refl
-  where
-    by_frame : (frame : Option ℕ) → slice_get r.frames.items (frames_for r.count + page) ≡ frame → reference_in frame * 1 + 0 < 2 ^ 32
-    by_frame None e = omega arith
-    by_frame (Some frame) e = let shared = all_at (λ (f : ℕ). f < 1018) r.frames.items (frames_for r.count + page) frame all e in omega arith
-
--- and zeros follow them
-abbrev page_words : List ℕ → List ℕ
-page_words [] = zeros 13
-page_words (gref ∷ pages) = (gref * 1 + 0) ∷ page_words pages
-
-pages_fit : (r : Request) (pages : List ℕ) → All (λ (frame : ℕ). frame < 1018) r.frames.items → AllByRecursion (λ (v : ℕ). v < 2 ^ 32) (page_words (map (page_reference r) pages))
-pages_fit r [] all = zeros_fit 13
-pages_fit r (page ∷ pages) all = (reference_fits r page all, pages_fit r pages all)
-
-named_fits : (op frames : ℕ) → op ≤ 5 → frames ≤ 960 → 6 + (op * 256 + (frames * 65536 + 0)) < 2 ^ 32
-named_fits op frames small few = omega arith
-
-indirect_words : (abi : Abi) (op : ℕ) (r : Request) → op ≤ 5 → r.number < 2 ^ 64 → r.sector < 2 ^ 64 → frames_for r.count ≤ 960 → All (λ (frame : ℕ). frame < 1018) r.frames.items
-    → AllByRecursion (λ (v : ℕ). v < 2 ^ 32) (words_of abi (Indirect op (frames_for r.count) 51712 r.number r.sector (page_references r)))
-unfolding words_of
-indirect_words X64 op r small number sector few all =
-    (named_fits op (frames_for r.count) small few, (none_fits, (low_half r.number, (high_half r.number number, (low_half r.sector, (high_half r.sector sector, (omega arith, pages_fit r (range_with_len 0 8) all)))))))
-indirect_words X32 op r small number sector few all =
-    (named_fits op (frames_for r.count) small few, (low_half r.number, (high_half r.number number, (low_half r.sector, (high_half r.sector sector, (omega arith, pages_fit r (range_with_len 0 8) all))))))
-
-moved_words : (abi : Abi) (op : ℕ) (r : Request) → op ≤ 5 → r.number < 2 ^ 64 → r.sector < 2 ^ 64 → r.count ≤ 7680 → All (λ (frame : ℕ). frame < 1018) r.frames.items → (b : Bool) → is_indirect r.count ≡ b
-    → AllByRecursion (λ (v : ℕ). v < 2 ^ 32) (words_of abi (if b then Indirect op (frames_for r.count) 51712 r.number r.sector (page_references r) else Direct op (frames_for r.count) 51712 r.number r.sector (segments_of r)))
-moved_words abi op r small number sector count all true e = indirect_words abi op r small number sector (omega arith) all
-moved_words abi op r small number sector count all false e = direct_words abi op r small number sector (grind (arith, nat_tests)) all
-
-entry_words : (abi : Abi) (way : Transfer) (r : Request) → r.number < 2 ^ 64 → r.sector < 2 ^ 64 → r.count ≤ 7680 → named_of way r.count < 2 ^ 32 → All (λ (frame : ℕ). frame < 1018) r.frames.items → AllByRecursion (λ (v : ℕ). v < 2 ^ 32) (words_of abi (entry_as way r))
-entry_words abi (transfer.Discard sectors) r number sector count named all = discard_words abi r.number r.sector sectors number sector (omega arith)
-entry_words abi way r number sector count named all = moved_words abi (operation_of way) r (operation_few way) number sector count all (is_indirect r.count) refl
+use Rattle.report_laws.proofs.FrontWords.{entry_words}
 
 -- a request: it moves no more sectors than 960 segments have, and its numbers have the widths of their fields
 pub record IsAsked (r : Request) : Type 0 where
@@ -460,94 +338,3 @@ front_good None h = tt
 front_good (Some (told.Answer id status)) h = (good (lines.Answer id status) h refl, tt)
 front_good (Some (told.Sector id index words)) h = (good (lines.Data id index words) h refl, tt)
 front_good (Some (told.Broken word)) h = (good (lines.Broken word) h refl, tt)
-
--- and so is the answer to a submission
-abbrev pub IsSubmitted : Submission → Result ℕ Refusal × View → Type 0
-IsSubmitted job x = IsInRange (submit_line job x.0) × IsFit x.1
-
-either_submit : (job : Submission) (b : Bool) (x y : Result ℕ Refusal × View) → (b ≡ true → IsSubmitted job x) → (b ≡ false → IsSubmitted job y) → IsSubmitted job (if b then x else y)
-either_submit job true x y p q = p refl
-either_submit job false x y p q = q refl
-
-refused : (v : View) (job : Submission) (why : Refusal) → IsFit v → IsSubmitted job (Err why, v)
-refused v job why f = (good (lines.Refuse why) tt refl, f)
-
-accepted_fits : (v : View) (job : Submission) (wish : Wish) (frames : Option (List ℕ × List Bool)) → v.last + 1 < 2 ^ 32 → wish.sector < 2 ^ 64 → wish.count ≤ 7680 → named_of wish.transfer wish.count < 2 ^ 32 → SubmissionHasWidths job → IsFit v → IsSubmitted job (submit_with v wish frames)
-accepted_fits v job wish None last sector few named widths f = refused v job refusal.Buffers f
-accepted_fits v job wish (Some taken) last sector few named widths f =
-    let k = f.0 in (
-      good (lines.Submit (v.last + 1) job) (omega arith, widths) refl,
-      (
-        record {
-          begins = k.begins;
-          sized = k.sized;
-          given = last;
-          asked = All-push IsAsked v.requests (request_with v wish taken.0) k.asked (record { number = last; sector = sector; few = few; named = named });
-          ends = k.ends;
-          written = k.written;
-          read = k.read;
-        },
-        f.1,
-        f.2,
-      ),
-    )
-
--- no request has more segments
-few_segments : (offers : Offers) (way : Transfer) → most_segments offers way ≤ 960
-few_segments offers way = by_way (may_be_indirect way)
-  where
-    by_way : (b : Bool) → (if b then max 11 (min 960 offers.indirect) else 11) ≤ 960
-    by_way true = omega arith
-    by_way false = omega arith
-
-wish_fits : (v : View) (job : Submission) (wish : Wish) → (wish.count ≤ 7680 → named_of wish.transfer wish.count < 2 ^ 32) → (wish.sector < 2 ^ 64 → wish.count ≤ 7680 → SubmissionHasWidths job) → v.last + 1 < 2 ^ 32 → IsFit v → IsSubmitted job (submit_one v (Some wish))
-wish_fits v job wish named widths last f =
-    let sized = f.0.sized in
-    let frames = taking (frames_taken wish.count) v.pool [] in
-    let unless_full = if nat_le (entries_of v.shape.order) (unfinished v) then (Err refusal.Full, v) else submit_with v wish frames in
-    let unless_long = if nat_lt (most_segments v.offers wish.transfer) (frames_for wish.count) then (Err refusal.Long, v) else unless_full in
-    let unless_past = if nat_lt v.offers.sectors (wish.sector + named_of wish.transfer wish.count) then (Err refusal.Range, v) else unless_long in
-    either_submit job (is_write wish.transfer && v.offers.read_only) (Err refusal.ReadOnly, v) unless_past (λ t. refused v job refusal.ReadOnly f)
-    (λ free. either_submit job (nat_lt v.offers.sectors (wish.sector + named_of wish.transfer wish.count)) (Err refusal.Range, v) unless_long (λ t. refused v job refusal.Range f)
-    (λ range. either_submit job (nat_lt (most_segments v.offers wish.transfer) (frames_for wish.count)) (Err refusal.Long, v) unless_full (λ t. refused v job refusal.Long f)
-    (λ long. either_submit job (nat_le (entries_of v.shape.order) (unfinished v)) (Err refusal.Full, v) (submit_with v wish frames) (λ t. refused v job refusal.Full f)
-    (λ t. accepted_fits v job wish frames last (low (named_of wish.transfer wish.count) range sized) (short long) (named (short long)) (widths (low (named_of wish.transfer wish.count) range sized) (short long)) f))))
-  where
-    low : (n : ℕ) → nat_lt v.offers.sectors (wish.sector + n) ≡ false → v.offers.sectors < 2 ^ 64 → wish.sector < 2 ^ 64
-    low n range sized = let fits : wish.sector + n ≤ v.offers.sectors = grind (arith, nat_tests) in omega arith
-
-    short : nat_lt (most_segments v.offers wish.transfer) (frames_for wish.count) ≡ false → wish.count ≤ 7680
-    short long =
-        let most = few_segments v.offers wish.transfer in
-        let few : frames_for wish.count ≤ 960 = grind (arith, nat_tests, most) in
-        omega arith
-
--- where the back doesn't serve it, it is refused
-wished_fits : (v : View) (job : Submission) (offered : Bool) (wish : Wish) → IsFit v → IsSubmitted job (submit_one v (Some wish)) → IsSubmitted job (submit_one v (wished offered wish))
-wished_fits v job true wish f is = is
-wished_fits v job false wish f is = refused v job refusal.Unsupported f
-
-pub submit_fits : (v : View) (job : Submission) → IsServable job → IsFit v → IsSubmitted job (submit_of v job)
-submit_fits v job may f =
-    let unless_unready = if not (is_ready v.stage) then (Err refusal.NotReady, v) else submit_one v (wish_of v.offers job) in
-    either_submit job (v.last == 4294967295) (Err refusal.Spent, v) (if v.closing then (Err refusal.Closing, v) else unless_unready) (λ t. refused v job refusal.Spent f)
-    (λ unspent. either_submit job v.closing (Err refusal.Closing, v) unless_unready (λ t. refused v job refusal.Closing f)
-    (λ unclosing. either_submit job (not (is_ready v.stage)) (Err refusal.NotReady, v) (submit_one v (wish_of v.offers job)) (λ t. refused v job refusal.NotReady f) (λ t. by_job job may (one_more v.last f.0.given unspent))))
-  where
-    one_more : (last : ℕ) → last < 2 ^ 32 → (last == 4294967295) ≡ false → last + 1 < 2 ^ 32
-    one_more last given unspent = grind (arith, nat_tests)
-
-    by_job : (job : Submission) → IsServable job → v.last + 1 < 2 ^ 32 → IsSubmitted job (submit_one v (wish_of v.offers job))
-    by_job (submissions.Read sector count) may last =
-        wish_fits v (submissions.Read sector count) (record { sector = sector; count = count; transfer = transfer.Read }) (λ few. omega arith) (λ low few. (low, (omega arith, omega arith))) last f
-    by_job (submissions.Write sector count tag) may last =
-        wish_fits v (submissions.Write sector count tag) (record { sector = sector; count = count; transfer = transfer.Write tag }) (λ few. omega arith) (λ low few. (low, (let some = may.0 in omega arith, omega arith), may.1)) last f
-    by_job (submissions.Barrier sector count tag) may last =
-        let wish : Wish = record { sector = sector; count = count; transfer = transfer.Barrier tag } in
-        wished_fits v (submissions.Barrier sector count tag) v.offers.barrier wish f (wish_fits v (submissions.Barrier sector count tag) wish (λ few. omega arith) (λ low few. (low, (let some = may.0 in omega arith, omega arith), may.1)) last f)
-    by_job submissions.Flush may last =
-        let wish : Wish = record { sector = 0; count = 0; transfer = transfer.Flush } in
-        wished_fits v submissions.Flush v.offers.flush wish f (wish_fits v submissions.Flush wish (λ few. omega arith) (λ low few. tt) last f)
-    by_job (submissions.Discard sector count) may last =
-        let wish : Wish = record { sector = sector; count = 0; transfer = transfer.Discard count } in
-        wished_fits v (submissions.Discard sector count) v.offers.discard wish f (wish_fits v (submissions.Discard sector count) wish (λ few. may.1) (λ low few. (low, (let some = may.0 in omega arith, may.1))) last f)

@@ -1,6 +1,6 @@
 -- A `closed` or a `broken` line stands in a report where the front is closed or broken, and nowhere else.
-use Rattle.std.proofs.Common.{◌≡◌, inl, inr, ◌||◌, Bool, true, false, not, List, [], ◌∷◌, ◌++◌, refl, ap, sym, ◌∙◌, subst, append_assoc}
-use Rattle.std.specs.Prelude.{Option, Some, None}
+use Rattle.std.proofs.Common.{◌≡◌, inl, inr, ◌||◌, Bool, true, false, not, List, [], ◌∷◌, ◌++◌, refl, ap, sym, ◌∙◌}
+use Rattle.std.specs.Prelude.{Option, Some, None, map}
 use Rattle.std.specs.List.{list_any}
 use Rattle.std.proofs.lemmas.List.{append-nil}
 use Rattle.std.proofs.lemmas.List.Folds.{list_any-append}
@@ -19,14 +19,15 @@ use Rattle.blk_front.specs.Step.{step_of}
 use Rattle.blk_front.specs.State.{is_open, in_state}
 use Rattle.blk_front.specs.Suspend.{stage_after, suspended}
 use Rattle.split_model.specs.World.{World, start_of}
-use Rattle.split_model.specs.Safe.{IsSafe}
 use Rattle.split_model.specs.Shown.{front_lines, state_lines}
-use Rattle.split_model.specs.Happening.{Happening, FrontMoves, FrontEnters, Suspends, enter_lines, happens, lines_at, after, lines_of, front_after, front_shows, front_turn}
+use Rattle.split_model.specs.Happening.{Happening, FrontMoves, FrontEnters, Suspends, enter_lines, happens, after, front_after, front_shows, front_turn}
+use Rattle.split_model.specs.Kept.{KeepingHappening, Plainly, happens_keeping, shows_keeping, after_keeping, IsSafeKeeping}
 use Rattle.split_model.specs.Report.{report_of}
-use Rattle.split_model.proofs.Safe.{safe_start, safe_happens}
 use Rattle.split_model.proofs.States.{enters_cases}
 use Rattle.split_model.proofs.Suspending.{suspend_cases, front_cases}
+use Rattle.move_laws.specs.Kept.{report_keeping}
 use Rattle.report_laws.specs.Ready.{says_over}
+use Rattle.report_laws.proofs.KeptReports.{report_always, plain_up}
 use Rattle.report_laws.proofs.Aside.{LeavesFront, leaves_front, aside_silent}
 use Rattle.report_laws.proofs.Phases.{Steps, front_steps, same_open, anew_phase, enters_open}
 
@@ -45,7 +46,7 @@ no_more : (before : List Line) (w : World) → IsToldOver before w → IsToldOve
 no_more before w was = ap (λ (ls : List Line). list_any says_over ls) (append-nil before) ∙ was
 
 -- a move of the front
-front_over : (w : World) (before : List Line) (act : Option FrontAct) → IsSafe w → IsToldOver before w → IsToldOver (before ++ front_shows w act) (front_after w act)
+front_over : (w : World) (before : List Line) (act : Option FrontAct) → IsSafeKeeping w → IsToldOver before w → IsToldOver (before ++ front_shows w act) (front_after w act)
 front_over w before None safe was = no_more before w was
 front_over w before (Some a) safe was = by_step (front_steps w.front.stage w.front a.answer safe.front_told refl)
   where
@@ -78,23 +79,20 @@ enters_over w before s was =
 pub suspended_open : (v : View) → (let x : View = suspended v in is_open x.stage) ≡ is_open v.stage
 suspended_open v = front_cases (λ (x : View). is_open x.stage ≡ is_open v.stage) v (λ on. same_open (stage_after v.stage) (stage.RingWord 0) (anew_phase v.stage) ∙ sym on) (λ over. refl)
 
-pub one_over : (w : World) (before : List Line) (h : Happening) → IsSafe w → IsToldOver before w → IsToldOver (before ++ lines_at w h) (happens w h)
-one_over w before FrontMoves safe was = front_over w before (front_turn w) safe was
-one_over w before (FrontEnters s) safe was = enters_over w before s was
-one_over w before Suspends safe was =
+pub one_over : (before : List Line) (w : World) (h : KeepingHappening) → IsSafeKeeping w → IsToldOver before w → IsToldOver (before ++ shows_keeping w h) (happens_keeping w h)
+one_over before w (Plainly FrontMoves) safe was = front_over w before (front_turn w) safe was
+one_over before w (Plainly (FrontEnters s)) safe was = enters_over w before s was
+one_over before w (Plainly Suspends) safe was =
     suspend_cases (λ v shown. IsToldOver (before ++ shown) v) w
     (λ may. more before (lines.Epoch ∷ []) (not (is_open w.front.stage)) false was refl ∙ (or_none (not (is_open w.front.stage)) ∙ ap not (sym (suspended_open w.front))))
     (no_more before w was)
-one_over w before h safe was =
-    let is : LeavesFront w (happens w h) (lines_at w h) = leaves_front w h tt in
-    more before (lines_at w h) (not (is_open w.front.stage)) false was (aside_silent (lines_at w h) is.lines)
+one_over before w h safe was =
+    let is : LeavesFront w (happens_keeping w h) (shows_keeping w h) = leaves_front w h tt in
+    more before (shows_keeping w h) (not (is_open w.front.stage)) false was (aside_silent (shows_keeping w h) is.lines)
     ∙ (or_none (not (is_open w.front.stage)) ∙ ap (λ (s : FrontStage). not (is_open s)) (sym is.front.stage))
 
-all_over : (history : List Happening) (w : World) (before : List Line) → IsSafe w → IsToldOver before w → IsToldOver (before ++ lines_of history w) (after history w)
-all_over [] w before safe was = no_more before w was
-all_over (h ∷ history) w before safe was =
-    subst (λ (ls : List Line). IsToldOver ls (after history (happens w h))) (append_assoc before (lines_at w h) (lines_of history (happens w h)))
-    (all_over history (happens w h) (before ++ lines_at w h) (safe_happens w h safe) (one_over w before h safe was))
+report_over_keeping : (config : Options) (detail : Detail) (history : List KeepingHappening) → IsToldOver (report_keeping config detail history) (after_keeping history (start_of config))
+report_over_keeping config detail history = report_always IsToldOver (λ before w h safe any was. one_over before w h safe was) config detail history refl
 
 pub report_over : (config : Options) (detail : Detail) (history : List Happening) → IsToldOver (report_of config detail history) (after history (start_of config))
-report_over config detail history = all_over history (start_of config) (lines.Begin config detail ∷ []) (safe_start config) refl
+report_over config detail history = plain_up IsToldOver config detail history (report_over_keeping config detail (map Plainly history))

@@ -1,6 +1,6 @@
 -- Whatever happens, each line is one of the grammar.
-use Rattle.std.proofs.Common.{◌≡◌, ℕ, ◌*◌, ◌^◌, ◌⊎◌, inl, inr, List, [], ◌∷◌, ◌++◌, refl, sym, ap, ◌∙◌, arith}
-use Rattle.std.specs.Prelude.{Option, Some, None}
+use Rattle.std.proofs.Common.{◌≡◌, ℕ, ◌*◌, ◌^◌, ◌<◌, ◌⊎◌, inl, inr, Bool, true, false, if◌then◌else◌, List, [], ◌∷◌, ◌++◌, length, refl, sym, ap, ◌∙◌, arith}
+use Rattle.std.specs.Prelude.{Option, Some, None, map}
 use Rattle.std.proofs.lemmas.Option.{none-some}
 use Rattle.std.proofs.lemmas.List.Elements.{All-from_recursion}
 use Rattle.blk_base.specs.Options.{Options}
@@ -26,28 +26,33 @@ use Rattle.blk_base.specs.declared.halt.Halt.{Halt}
 use Rattle.blk_base.specs.declared.halt.Halt.TheVariants as halt
 use Rattle.blk_back.specs.View as back
 use Rattle.blk_back.specs.Ask as back_ask
-use Rattle.blk_back.specs.Step as back_step
-use Rattle.blk_back.specs.Hands.{hands_of}
+use Rattle.blk_back.specs.Ask.{is_led}
+use Rattle.blk_back.specs.Keeping.{step_keeping, job_ask_keeping, job_step_keeping, halts_keeping}
+use Rattle.blk_back.specs.Hands.{all_hands_of}
 use Rattle.split_model.specs.World.{World, start_of}
-use Rattle.split_model.specs.Safe.{IsSafe}
 use Rattle.split_model.specs.Shown.{back_lines, halt_lines}
 use Rattle.split_model.proofs.Showing.{IsFound, lines_are}
-use Rattle.split_model.specs.Happening.{Happening, FrontMoves, BackMoves, JobMoves, Negotiates, FrontEnters, BackAttaches, BackHalts, Submits, Pokes, OverwritesKey, Suspends, Dumps, happens, lines_at, lines_of, front_after, front_shows, back_after, back_shows, job_after, job_shows, front_turn, back_turn, job_turn}
+use Rattle.split_model.specs.Happening.{Happening, FrontMoves, BackMoves, JobMoves, Negotiates, FrontEnters, BackAttaches, BackHalts, Submits, Pokes, OverwritesKey, Suspends, Dumps, happens, lines_at, front_after, front_shows, front_turn, back_turn}
+use Rattle.split_model.specs.Kept.{KeepingHappening, Plainly, BackOffers, BackKeeps, offered, offer_line, kept_so, keeping_line, reads_keeping, back_after_keeping, back_shows_keeping, job_turn_keeping, job_after_keeping, job_shows_keeping, plainly_after, plainly_shows, happens_keeping, shows_keeping, lines_keeping, IsSafeKeeping}
 use Rattle.split_model.specs.Report.{report_of, ended_report_of}
 use Rattle.split_model.proofs.Overwriting.{within_guest}
 use Rattle.split_model.proofs.Attaching.{attach_cases}
 use Rattle.split_model.proofs.Suspending.{suspend_cases, begun_back, back_cases}
-use Rattle.split_model.proofs.Safe.{safe_start, safe_happens}
-use Rattle.move_laws.specs.Permitted.{IsPermitted}
-use Rattle.move_laws.proofs.Always.{IsOrderly, orderly_start, orderly_happens, within_here}
-use Rattle.move_laws.proofs.Runs.{FollowsTo, dump_words_are, follows_happens, follows_begin}
+use Rattle.split_model.proofs.Kept.{kept_start, kept_happens}
+use Rattle.split_model.proofs.KeptHands.{names_more}
+use Rattle.move_laws.specs.Kept.{IsPermittedKeeping, report_keeping, ended_report_keeping}
+use Rattle.move_laws.proofs.Always.{IsOrderlyKeeping, orderly_start, orderly_happens_keeping, within_keeping}
+use Rattle.move_laws.proofs.Runs.{FollowsTo, dump_words_are, follows_keeping, follows_begin}
 use Rattle.machine_pipeline.specs.Allowed.{IsSaid, AreSaid, IsPossible, ArePossible}
 use Rattle.report_laws.specs.Grammar.{IsInGrammar}
+use Rattle.report_laws.specs.Kept.{AreEach, IsPossibleKeeping}
+use Rattle.report_laws.proofs.KeptReports.{plain_all, plain_report, plain_ended}
 use Rattle.report_laws.proofs.Words.{AreWords, word_fits, write_fits, cleared_fits, fresh_words}
-use Rattle.report_laws.proofs.Spelled.{AreSpelled, keys_good, layout_good, spelled_happens, spelled_start}
+use Rattle.report_laws.proofs.Spelled.{AreSpelled, keys_good, layout_good, offer_good, keeping_good, spelled_happens, spelled_start}
 use Rattle.report_laws.proofs.Acts.{ActFits, FrontFits, BackFits, front_act_fits, back_act_fits, front_told_fits, back_told_fits}
-use Rattle.report_laws.proofs.Numbers.{HasNumbers, HaveNumbers}
+use Rattle.report_laws.proofs.Numbers.{HasNumbers, HaveNumbers, HasNumbersAt, short_numbers}
 use Rattle.report_laws.proofs.Told.{AreGood, good, both_good}
+use Rattle.report_laws.proofs.FrontSubmitted.{submit_fits}
 use Rattle.report_laws.proofs.FrontNumbers as front_numbers
 use Rattle.report_laws.proofs.FrontAsks.{front_asks}
 use Rattle.report_laws.proofs.BackNumbers as back_numbers
@@ -66,8 +71,8 @@ record IsNumbered (w : World) : Type 0 where
 
 -- what stands before a happening
 record IsWell (before : List Line) (w : World) : Type 0 where
-  safe : IsSafe w
-  orderly : IsOrderly w
+  safe : IsSafeKeeping w
+  orderly : IsOrderlyKeeping w
   follows : FollowsTo before w
   spelled : AreSpelled w.under.keys
   numbered : IsNumbered w
@@ -89,7 +94,7 @@ stays ls w f h is fits words shown = record {
   };
 }
 
-front_good : (before : List Line) (w : World) (act : Option FrontAct) → IsWell before w → IsPermitted w FrontMoves → front_turn w ≡ act → ShowsGood (front_shows w act) (front_after w act)
+front_good : (before : List Line) (w : World) (act : Option FrontAct) → IsWell before w → IsPermittedKeeping w (Plainly FrontMoves) → front_turn w ≡ act → ShowsGood (front_shows w act) (front_after w act)
 front_good before w None is within e = let n = is.numbered in stays [] w w.front w.under n n.front n.words tt
 front_good before w (Some a) is within e =
     let n = is.numbered in
@@ -104,21 +109,21 @@ moved : (more : List Line) (w : World) (a : BackAct) (b : back.View) → IsNumbe
     → ShowsGood (lines.Move a.shown ∷ more) (record { front = w.front; back = record b { told = None }; under = a.under })
 moved more w a b is fits v shown = record { good_lines = (fits.line, shown); numbered = record { words = fits.words; front = is.front; back = (v.0, v.1, tt) } }
 
-back_good : (before : List Line) (w : World) (act : Option BackAct) → IsWell before w → IsPermitted w BackMoves → back_turn w Took ≡ act → HasNumbers w → ShowsGood (back_shows w act) (back_after w act)
+back_good : (before : List Line) (w : World) (act : Option BackAct) → IsWell before w → IsPermittedKeeping w (Plainly BackMoves) → back_turn w Took ≡ act → HasNumbers w → ShowsGood (back_shows_keeping w act) (back_after_keeping w act)
 back_good before w None is within e numbers = let n = is.numbered in stays [] w w.front w.under n n.front n.words tt
 back_good before w (Some a) is within e numbers =
     let n = is.numbered in
-    let b : back.View = back_step.step_of w.back a.answer in
+    let b : back.View = step_keeping w.back a.answer in
     let asks : BackFits back_mover.Back (back_ask.ask_of w.back) = back_asks most w.back n.back in
-    let fits : ActFits a.shown a.under.pages = back_act_fits w.under back_mover.Back (back_ask.ask_of w.back) Took a (hands_of w.back) n.words is.follows.tells.grantable is.safe.held
-    numbers.0 (record { widths = tt; allowed = refl }) within asks is.spelled e in
+    let fits : ActFits a.shown a.under.pages = back_act_fits w.under back_mover.Back (back_ask.ask_of w.back) Took a (all_hands_of w.back) n.words is.follows.tells.grantable is.safe.held
+    numbers.0 (record { widths = tt; allowed = refl }) (names_more w.back (back_ask.ask_of w.back) within) asks is.spelled e in
     let told = back_told_fits w.under back_mover.Back (back_ask.ask_of w.back) Took a n.words tt asks e in
     let last = numbers.1 in
     let v : back_numbers.IsFit most b = back_numbers.back_fits most w.back a.answer (omega arith) (omega arith) n.back told in
     moved (back_lines b.told a.answer ++ halt_lines w.back.halted b.halted) w a b n fits v
     (both_good (back_lines b.told a.answer) (halt_lines w.back.halted b.halted) (back_numbers.back_good b.told a.answer v.2 told) (back_numbers.halt_good w.back.halted b.halted v.0.why))
 
-job_good : (before : List Line) (w : World) (number : ℕ) (o : Outcome) (act : Option BackAct) → IsWell before w → IsGiven o → IsPermitted w (JobMoves number o) → job_turn w number o ≡ act → HasNumbers w → ShowsGood (job_shows w number act) (job_after w number act)
+job_good : (before : List Line) (w : World) (number : ℕ) (o : Outcome) (act : Option BackAct) → IsWell before w → IsGiven o → IsPermittedKeeping w (Plainly (JobMoves number o)) → job_turn_keeping w number o ≡ act → HasNumbers w → ShowsGood (job_shows_keeping w number act) (job_after_keeping w number act)
 job_good before w number o None is given within e numbers = let n = is.numbered in stays [] w w.front w.under n n.front n.words tt
 job_good before w number o (Some a) is given within e numbers = by_asks (job_asks most w.back number n.back)
   where
@@ -126,15 +131,15 @@ job_good before w number o (Some a) is given within e numbers = by_asks (job_ask
     n = is.numbered
 
     x : BackAsk
-    x = back_step.job_ask_of w.back number
+    x = job_ask_keeping w.back number
 
     b : back.View
-    b = back_step.job_step w.back number a.answer
+    b = job_step_keeping w.back number a.answer
 
-    by_asks : (x ≡ Wait) ⊎ JobAsks number x → ShowsGood (job_shows w number (Some a)) (job_after w number (Some a))
+    by_asks : (x ≡ Wait) ⊎ JobAsks number x → ShowsGood (job_shows_keeping w number (Some a)) (job_after_keeping w number (Some a))
     by_asks (inl waits) = absurd (none-some a (sym (ap (λ (y : BackAsk). back_act w.under (back_mover.Job number) y o) waits) ∙ e))
     by_asks (inr asks) =
-        let fits : ActFits a.shown a.under.pages = back_act_fits w.under (back_mover.Job number) x o a (hands_of w.back) n.words is.follows.tells.grantable is.safe.held numbers.0 asks.mover within asks.fits is.spelled e in
+        let fits : ActFits a.shown a.under.pages = back_act_fits w.under (back_mover.Job number) x o a (all_hands_of w.back) n.words is.follows.tells.grantable is.safe.held numbers.0 asks.mover (names_more w.back x within) asks.fits is.spelled e in
         let told = back_told_fits w.under (back_mover.Job number) x o a n.words given asks.fits e in
         let v : back_numbers.IsFit most b = back_numbers.job_fits most w.back number a.answer n.back told in
         moved (back_lines b.told a.answer) w a b n fits v (back_numbers.back_good b.told a.answer v.2 told)
@@ -161,9 +166,9 @@ attached_good w shape grefs port said spelled n =
     (λ may named says. back_stays _ w _ n (back_numbers.attached_fits most shape grefs port w.back said n.back) (layout_good w spelled, tt)) (back_stays [] w w.back n n.back tt)
 
 -- or halts
-halted_good : (w : World) (why : Halt) → IsSaid why → IsNumbered w → ShowsGood (lines_at w (BackHalts why)) (happens w (BackHalts why))
+halted_good : (w : World) (why : Halt) → IsSaid why → IsNumbered w → ShowsGood (plainly_shows w (BackHalts why)) (plainly_after w (BackHalts why))
 halted_good w why said n =
-    let b : back.View = back_step.halts why w.back in
+    let b : back.View = halts_keeping why w.back in
     let fits : back_numbers.IsFit most b = back_numbers.halts_fits most why w.back said n.back in
     back_stays (halt_lines w.back.halted b.halted) w b n fits (back_numbers.halt_good w.back.halted b.halted fits.0.why)
 
@@ -190,47 +195,61 @@ suspended_good w n =
     new = back_numbers.later 0 most (begun_back w) (omega arith) (back_numbers.new_fits w.front.start info n.front.0.begins n.back.0.sized)
 
 -- the words of the ring that a dump shows
-dump_good : (w : World) → IsPermitted w Dumps → AreWords w.under.pages → AreGood (lines_at w Dumps)
+dump_good : (w : World) → IsPermittedKeeping w (Plainly Dumps) → AreWords w.under.pages → AreGood (lines_at w Dumps)
 dump_good w few words =
     dump_words_are IsInRange w.under.pages 0 (1024 * 2 ^ w.front.shape.order) (omega (arith, few))
     (λ frame word framed worded. good (lines.Word frame word (word_of w.under.pages frame word)) (omega arith, omega arith, word_fits w.under.pages frame word words) refl)
 
 -- what shows nothing but what a look finds, and leaves both ends and the memory, has no case
-one_good : (before : List Line) (w : World) (h : Happening) → IsWell before w → IsPossible w h → HasNumbers w → ShowsGood (lines_at w h) (happens w h)
-one_good before w FrontMoves is may short = front_good before w (front_turn w) is (within_here w FrontMoves is.orderly) refl
-one_good before w BackMoves is may short = back_good before w (back_turn w Took) is (within_here w BackMoves is.orderly) refl short
-one_good before w (JobMoves number outcome) is may short = job_good before w number outcome (job_turn w number outcome) is may (within_here w (JobMoves number outcome) is.orderly) refl short
-one_good before w (Negotiates at move) is may short = let n = is.numbered in stays _ w w.front _ n n.front n.words (keys_good w at move may is.spelled)
-one_good before w (FrontEnters state) is may short = let n = is.numbered in let entered = front_numbers.enters_fits w state w.front may n.front in stays _ w (enters state w.front) w.under n entered.0 n.words entered.1
-one_good before w (BackAttaches shape grefs port) is may short = attached_good w shape grefs port may is.spelled is.numbered
-one_good before w (BackHalts why) is may short = halted_good w why may is.numbered
-one_good before w (Submits job) is may short =
-    let n = is.numbered in let submitted = front_numbers.submit_fits w.front job may n.front in stays _ w _ w.under n submitted.1 n.words (submitted.0, tt)
-one_good before w (Pokes frame word value) is may short =
+plainly_good : (before : List Line) (w : World) (h : Happening) → IsWell before w → IsPossible w h → HasNumbers w → ShowsGood (plainly_shows w h) (plainly_after w h)
+plainly_good before w FrontMoves is may short = front_good before w (front_turn w) is (within_keeping w (Plainly FrontMoves) is.orderly) refl
+plainly_good before w BackMoves is may short = back_good before w (back_turn w Took) is (within_keeping w (Plainly BackMoves) is.orderly) refl short
+plainly_good before w (JobMoves number outcome) is may short = job_good before w number outcome (job_turn_keeping w number outcome) is may (within_keeping w (Plainly (JobMoves number outcome)) is.orderly) refl short
+plainly_good before w (Negotiates at move) is may short = let n = is.numbered in stays _ w w.front _ n n.front n.words (keys_good w at move may is.spelled)
+plainly_good before w (FrontEnters state) is may short = let n = is.numbered in let entered = front_numbers.enters_fits w state w.front may n.front in stays _ w (enters state w.front) w.under n entered.0 n.words entered.1
+plainly_good before w (BackAttaches shape grefs port) is may short = attached_good w shape grefs port may is.spelled is.numbered
+plainly_good before w (BackHalts why) is may short = halted_good w why may is.numbered
+plainly_good before w (Submits job) is may short =
+    let n = is.numbered in let submitted = submit_fits w.front job may n.front in stays _ w _ w.under n submitted.1 n.words (submitted.0, tt)
+plainly_good before w (Pokes frame word value) is may short =
     let n = is.numbered in let within = within_guest frame word may.0 in
     rw may.0 (stays _ w w.front _ n n.front (write_fits w.under.pages frame word value n.words may.1) (good (lines.Poke frame word value) (omega (arith, within.0), omega (arith, within.1), may.1) may.0, tt))
-one_good before w (OverwritesKey name text) is may short = let n = is.numbered in rw may (stays _ w w.front _ n n.front n.words (good (lines.Key name text) tt may, tt))
-one_good before w Suspends is may short = suspended_good w is.numbered
-one_good before w Dumps is may short = let n = is.numbered in stays _ w w.front w.under n n.front n.words (dump_good w (within_here w Dumps is.orderly) n.words)
-one_good before w h is may short = let n = is.numbered in stays _ w w.front _ n n.front n.words (lines_are IsInRange w h (λ line shows. search found_good))
+plainly_good before w (OverwritesKey name text) is may short = let n = is.numbered in rw may (stays _ w w.front _ n n.front n.words (good (lines.Key name text) tt may, tt))
+plainly_good before w Suspends is may short = suspended_good w is.numbered
+plainly_good before w Dumps is may short = let n = is.numbered in stays _ w w.front w.under n n.front n.words (dump_good w (within_keeping w (Plainly Dumps) is.orderly) n.words)
+plainly_good before w h is may short = let n = is.numbered in stays _ w w.front _ n n.front n.words (lines_are IsInRange w h (λ line shows. search found_good))
 
-all_good : (hs : List Happening) (before : List Line) (w : World) → IsWell before w → ArePossible hs w → HaveNumbers hs w → AreGood (lines_of hs w)
+-- what the back does with the keys for kept mappings
+offers_good : (w : World) (b : Bool) → IsNumbered w → ShowsGood (if b then offer_line ∷ [] else []) (if b then offered w else w)
+offers_good w true n = stays (offer_line ∷ []) w w.front _ n n.front n.words (offer_good, tt)
+offers_good w false n = stays [] w w.front w.under n n.front n.words tt
+
+keeps_good : (w : World) (cap : ℕ) (b : Bool) → AreSpelled w.under.keys → IsNumbered w → ShowsGood (if b then keeping_line w ∷ [] else []) (if b then kept_so w cap else w)
+keeps_good w cap true spelled n = back_stays (keeping_line w ∷ []) w _ n n.back (keeping_good w spelled, tt)
+keeps_good w cap false spelled n = stays [] w w.front w.under n n.front n.words tt
+
+one_good : (before : List Line) (w : World) (h : KeepingHappening) → IsWell before w → IsPossibleKeeping w h → HasNumbers w → ShowsGood (shows_keeping w h) (happens_keeping w h)
+one_good before w (Plainly h) is may short = plainly_good before w h is may short
+one_good before w BackOffers is may short = offers_good w (is_led w.back.stage) is.numbered
+one_good before w (BackKeeps cap) is may short = keeps_good w cap (reads_keeping w cap) is.spelled is.numbered
+
+all_good : (hs : List KeepingHappening) (before : List Line) (w : World) → IsWell before w → AreEach IsPossibleKeeping hs w → AreEach HasNumbersAt hs w → AreGood (lines_keeping hs w)
 all_good [] before w is may numbers = tt
 all_good (h ∷ hs) before w is may numbers =
     let shows = one_good before w h is may.0 numbers.0 in
-    let next : IsWell (before ++ lines_at w h) (happens w h) = record {
-      safe = safe_happens w h is.safe;
-      orderly = orderly_happens w h is.orderly;
-      follows = follows_happens w h before is.safe (within_here w h is.orderly) is.follows;
+    let next : IsWell (before ++ shows_keeping w h) (happens_keeping w h) = record {
+      safe = kept_happens w h is.safe;
+      orderly = orderly_happens_keeping w h is.safe is.orderly;
+      follows = follows_keeping w h before is.safe.held (within_keeping w h is.orderly) is.follows;
       spelled = spelled_happens w h may.0 is.spelled;
       numbered = shows.numbered;
     } in
-    both_good (lines_at w h) (lines_of hs (happens w h)) shows.good_lines (all_good hs (before ++ lines_at w h) (happens w h) next may.1 numbers.1)
+    both_good (shows_keeping w h) (lines_keeping hs (happens_keeping w h)) shows.good_lines (all_good hs (before ++ shows_keeping w h) (happens_keeping w h) next may.1 numbers.1)
 
 start_well : (config : Options) (detail : Detail) → AreOptions config → IsWell (lines.Begin config detail ∷ []) (start_of config)
 start_well config detail options = record {
-  safe = safe_start config;
-  orderly = orderly_start config options.0;
+  safe = kept_start config;
+  orderly = (orderly_start config options.0).ends;
   follows = follows_begin config detail;
   spelled = spelled_start;
   numbered = record { words = fresh_words 1114112; front = front_numbers.front_start config options; back = back_numbers.later 0 most (back.start_of config) (omega arith) (back_numbers.back_start config options) };
@@ -250,12 +269,46 @@ good_kept detail (line ∷ ls) all = both_good (recorded detail line) (kept_of d
 kept_grammar : (detail : Detail) (ls : List Line) → AreGood ls → IsInGrammar (kept_of detail ls)
 kept_grammar detail ls all = given_back (kept_of detail ls) (All-from_recursion IsInRange (kept_of detail ls) (good_kept detail ls all))
 
-report_good : (config : Options) (detail : Detail) (history : List Happening) → AreOptions config → ArePossible history (start_of config) → HaveNumbers history (start_of config) → AreGood (report_of config detail history)
+report_good : (config : Options) (detail : Detail) (history : List KeepingHappening) → AreOptions config → AreEach IsPossibleKeeping history (start_of config) → AreEach HasNumbersAt history (start_of config)
+    → AreGood (report_keeping config detail history)
 report_good config detail history options may numbers = (good (lines.Begin config detail) options refl, all_good history (lines.Begin config detail ∷ []) (start_of config) (start_well config detail options) may numbers)
 
-pub report_grammar : (config : Options) (detail : Detail) (history : List Happening) → AreOptions config → ArePossible history (start_of config) → HaveNumbers history (start_of config) → IsInGrammar (kept_of detail (report_of config detail history))
-report_grammar config detail history options may numbers = kept_grammar detail (report_of config detail history) (report_good config detail history options may numbers)
+pub report_grammar_keeping : (config : Options) (detail : Detail) (history : List KeepingHappening) → AreOptions config → AreEach IsPossibleKeeping history (start_of config) → AreEach HasNumbersAt history (start_of config)
+    → IsInGrammar (kept_of detail (report_keeping config detail history))
+report_grammar_keeping config detail history options may numbers = kept_grammar detail (report_keeping config detail history) (report_good config detail history options may numbers)
+
+pub ended_grammar_keeping : (config : Options) (detail : Detail) (history : List KeepingHappening) → AreOptions config → AreEach IsPossibleKeeping history (start_of config) → AreEach HasNumbersAt history (start_of config)
+    → IsInGrammar (kept_of detail (ended_report_keeping config detail history))
+ended_grammar_keeping config detail history options may numbers =
+    kept_grammar detail (ended_report_keeping config detail history)
+    (both_good (report_keeping config detail history) (lines.End ∷ []) (report_good config detail history options may numbers) (good lines.End tt refl, tt))
+
+-- where none are kept
+all_possible : (config : Options) (history : List Happening) → ArePossible history (start_of config) → AreEach IsPossibleKeeping (map Plainly history) (start_of config)
+all_possible config history may = plain_all ArePossible IsPossibleKeeping (λ h hs w are. are) config history may
+
+all_numbered : (config : Options) (history : List Happening) → HaveNumbers history (start_of config) → AreEach HasNumbersAt (map Plainly history) (start_of config)
+all_numbered config history numbers = plain_all HaveNumbers HasNumbersAt (λ h hs w are. are) config history numbers
 
 pub ended_grammar : (config : Options) (detail : Detail) (history : List Happening) → AreOptions config → ArePossible history (start_of config) → HaveNumbers history (start_of config) → IsInGrammar (kept_of detail (ended_report_of config detail history))
 ended_grammar config detail history options may numbers =
-    kept_grammar detail (ended_report_of config detail history) (both_good (report_of config detail history) (lines.End ∷ []) (report_good config detail history options may numbers) (good lines.End tt refl, tt))
+    plain_ended (λ ls. IsInGrammar (kept_of detail ls)) config detail history
+    (ended_grammar_keeping config detail (map Plainly history) options (all_possible config history may) (all_numbered config history numbers))
+
+-- and of a report of fewer than 2 ^ 64 lines
+plain_numbers : (config : Options) (detail : Detail) (history : List Happening) → length (report_of config detail history) < 2 ^ 64 → AreEach HasNumbersAt (map Plainly history) (start_of config)
+plain_numbers config detail history short =
+    short_numbers config detail (map Plainly history)
+    (plain_report (λ ls. length ls < 2 ^ 64 → length (report_keeping config detail (map Plainly history)) < 2 ^ 64) config detail history (λ here. here) short)
+
+pub short_report : (config : Options) (detail : Detail) (history : List Happening) → AreOptions config → ArePossible history (start_of config) → length (report_of config detail history) < 2 ^ 64
+    → IsInGrammar (kept_of detail (report_of config detail history))
+short_report config detail history options may short =
+    plain_report (λ ls. IsInGrammar (kept_of detail ls)) config detail history
+    (report_grammar_keeping config detail (map Plainly history) options (all_possible config history may) (plain_numbers config detail history short))
+
+pub short_ended : (config : Options) (detail : Detail) (history : List Happening) → AreOptions config → ArePossible history (start_of config) → length (report_of config detail history) < 2 ^ 64
+    → IsInGrammar (kept_of detail (ended_report_of config detail history))
+short_ended config detail history options may short =
+    plain_ended (λ ls. IsInGrammar (kept_of detail ls)) config detail history
+    (ended_grammar_keeping config detail (map Plainly history) options (all_possible config history may) (plain_numbers config detail history short))

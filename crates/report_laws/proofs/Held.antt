@@ -2,7 +2,6 @@
 use Rattle.std.proofs.Common.{◌≡◌, inl, ℕ, ◌+◌, ◌*◌, ◌/◌, ◌%◌, ◌^◌, Bool, true, false, true≢false, if◌then◌else◌, List, [], ◌∷◌, length, refl, sym, ap, ◌∙◌}
 use Rattle.std.specs.Prelude.{Option, Some, None, Result, Ok, Err, nat_lt, slice_set, ◌==◌}
 use Rattle.std.specs.List.{list_any}
-use Rattle.blk_base.specs.Options.{Options}
 use Rattle.blk_base.specs.Distance.{distance_of}
 use Rattle.blk_base.specs.declared.ask.FrontAnswer.{FrontAnswer}
 use Rattle.blk_base.specs.declared.ask.FrontAnswer.TheVariants as answer
@@ -25,10 +24,10 @@ use Rattle.blk_front.specs.View.{View, next_request}
 use Rattle.blk_front.specs.Step.{at, broken, looked, entered, begun, answered, freed, revokes, after_data, data_stage, page_stage, granted, ring_left, loop_step, issued, response_at, is_mapped, finished, ended, revoked, sector_told, data_step, left_step, step_at}
 use Rattle.blk_front.specs.State.{in_state}
 use Rattle.blk_front.specs.Suspend.{stage_after, ending_after, suspended}
-use Rattle.split_model.specs.World.{World, start_of}
-use Rattle.split_model.specs.Happening.{Happening, after, lines_of}
+use Rattle.split_model.specs.World.{World}
 use Rattle.split_model.proofs.Suspending.{front_cases}
-use Rattle.report_laws.proofs.Announced.{IsAnnounced, all_said}
+use Rattle.split_model.specs.Kept.{KeepingHappening, happens_keeping, shows_keeping}
+use Rattle.report_laws.proofs.Announced.{IsAnnounced, one_said}
 use Rattle.report_laws.proofs.Submitted.{submit_cases}
 
 -- it reads data of no request, or ends a kept grant, of which it has none
@@ -175,11 +174,12 @@ never_said : (ls : List Line) → list_any (λ (line : Line). false) ls ≡ true
 never_said [] t = true≢false (sym t)
 never_said (line ∷ ls) t = never_said ls t
 
-pub always_holds : (config : Options) (history : List Happening) → (let w : World = after history (start_of config) in lacks w.front.stage w.front.ending) ≡ false
-always_holds config history = by_test (let w : World = after history (start_of config) in lacks w.front.stage w.front.ending) refl
+abbrev pub IsHeld : World → Type 0
+IsHeld w = lacks w.front.stage w.front.ending ≡ false
+
+pub one_held : (w : World) (h : KeepingHappening) → IsHeld w → IsHeld (happens_keeping w h)
+one_held w h held = by_test (let x : World = happens_keeping w h in lacks x.front.stage x.front.ending) refl
   where
-    by_test : (b : Bool) → (let w : World = after history (start_of config) in lacks w.front.stage w.front.ending) ≡ b → b ≡ false
+    by_test : (b : Bool) → (let x : World = happens_keeping w h in lacks x.front.stage x.front.ending) ≡ b → b ≡ false
     by_test false e = refl
-    by_test true e =
-        absurd (never_said (lines_of history (start_of config))
-        (all_said (λ (v : View). lacks v.stage v.ending) (λ (line : Line). false) lacking_announced history (start_of config) [] (λ t. absurd (true≢false (sym t))) e))
+    by_test true e = absurd (never_said (shows_keeping w h) (one_said (λ (v : View). lacks v.stage v.ending) (λ (line : Line). false) lacking_announced [] w h (λ t. absurd (true≢false (sym t ∙ held))) e))

@@ -1,3 +1,4 @@
+pub mod KeptReports
 pub mod Lines
 pub mod Begun
 pub mod Looks
@@ -23,8 +24,11 @@ pub mod Words
 pub mod Told
 pub mod Spelled
 pub mod Acts
+pub mod FrontWords
 pub mod FrontNumbers
+pub mod FrontSubmitted
 pub mod FrontAsks
+pub mod JobNumbers
 pub mod BackNumbers
 pub mod BackAsks
 pub mod Numbers

@@ -4,9 +4,11 @@ use Rattle.std.specs.List.{AllByRecursion}
 use Rattle.schedule_text.specs.declared.line.Line.{Line}
 use Rattle.schedule_text.specs.declared.line.Line.TheVariants as lines
 use Rattle.split_model.specs.World.{World}
-use Rattle.split_model.specs.Happening.{Happening, Dumps, Looks, Settles, happens, lines_at, lines_of}
+use Rattle.split_model.specs.Happening.{Happening, Dumps, Looks, Settles, lines_at}
+use Rattle.split_model.specs.Kept.{KeepingHappening, happens_keeping, shows_keeping, lines_keeping}
 use Rattle.split_model.proofs.Showing.{MayShow, lines_are, both_all}
 use Rattle.report_laws.specs.Begun.{is_begin}
+use Rattle.report_laws.proofs.KeptReports.{as_plain, keeping_are}
 
 abbrev pub says_quiet : Line → Bool
 says_quiet lines.Quiet = true
@@ -30,6 +32,9 @@ unquiet h line blind shows = refl
 pub shows_unquiet : (w : World) (h : Happening) → IsBlind h → AreUnquiet (lines_at w h)
 shows_unquiet w h blind = lines_are (λ (line : Line). says_quiet line ≡ false) w h (λ line shows. unquiet h line blind shows)
 
+pub keeping_unquiet : (w : World) (h : KeepingHappening) → IsBlind (as_plain h) → AreUnquiet (shows_keeping w h)
+keeping_unquiet w h blind = keeping_are (λ (line : Line). says_quiet line ≡ false) w h (λ line shows. unquiet (as_plain h) line blind shows)
+
 -- no line begins a report
 abbrev pub AreLater : List Line → Type 0
 AreLater ls = AllByRecursion (λ (line : Line). is_begin line ≡ false) ls
@@ -42,9 +47,9 @@ later Dumps (lines.Begin config detail) shows = absurd shows
 later h (lines.Begin config detail) shows = absurd shows
 later h line shows = refl
 
-one_later : (w : World) (h : Happening) → AreLater (lines_at w h)
-one_later w h = lines_are (λ (line : Line). is_begin line ≡ false) w h (later h)
+one_later : (w : World) (h : KeepingHappening) → AreLater (shows_keeping w h)
+one_later w h = keeping_are (λ (line : Line). is_begin line ≡ false) w h (later (as_plain h))
 
-pub all_later : (history : List Happening) (w : World) → AreLater (lines_of history w)
+pub all_later : (history : List KeepingHappening) (w : World) → AreLater (lines_keeping history w)
 all_later [] w = tt
-all_later (h ∷ history) w = both_later (lines_at w h) (lines_of history (happens w h)) (one_later w h) (all_later history (happens w h))
+all_later (h ∷ history) w = both_later (shows_keeping w h) (lines_keeping history (happens_keeping w h)) (one_later w h) (all_later history (happens_keeping w h))

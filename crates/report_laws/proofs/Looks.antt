@@ -12,10 +12,12 @@ use Rattle.report_rules.proofs.Obeys.{obeys_none, obeys_more}
 use Rattle.split_model.specs.World.{World, start_of, is_quiet}
 use Rattle.split_model.specs.Happening.{Happening, Looks, Settles, happens, lines_at, after, lines_of}
 use Rattle.schedule_text.specs.Recorder.{kept_of}
+use Rattle.split_model.specs.Kept.{KeepingHappening, Plainly, shows_keeping}
 use Rattle.split_model.specs.Report.{report_of, ended_report_of}
 use Rattle.split_model.proofs.Running.{lines_of-append, kept_of-append}
 use Rattle.machine_pipeline.specs.Allowed.{IsServed, AreServed}
-use Rattle.report_laws.proofs.Lines.{says_quiet, AreUnquiet, shows_unquiet}
+use Rattle.report_laws.proofs.KeptReports.{as_plain}
+use Rattle.report_laws.proofs.Lines.{says_quiet, AreUnquiet, shows_unquiet, keeping_unquiet}
 
 -- a rule that says nothing of any other line than `quiet`
 abbrev pub SpeaksOfQuiet : (List Line → Line → Type 0) → Type 0
@@ -37,10 +39,41 @@ finds_quiet (Looks quiet) = quiet
 finds_quiet (Settles quiet) = quiet
 finds_quiet h = false
 
+-- the line of what it finds, or lines of which none says `quiet`
+abbrev SaysFound : Happening → List Line → Type 0
+SaysFound (Looks quiet) shown = shown ≡ (if quiet then lines.Quiet else lines.Busy) ∷ []
+SaysFound (Settles quiet) shown = shown ≡ (if quiet then lines.Quiet else lines.Unsettled) ∷ []
+SaysFound h shown = AreUnquiet shown
+
+says_found : (w : World) (h : Happening) → SaysFound h (lines_at w h)
+says_found w (Looks quiet) = refl
+says_found w (Settles quiet) = refl
+says_found w h = shows_unquiet w h tt
+
+keeping_found : (w : World) (h : KeepingHappening) → SaysFound (as_plain h) (shows_keeping w h)
+keeping_found w (Plainly (Looks quiet)) = refl
+keeping_found w (Plainly (Settles quiet)) = refl
+keeping_found w h = keeping_unquiet w h tt
+
+found_obeys : (Rule : List Line → Line → Type 0) → SpeaksOfQuiet Rule → (before : List Line) (h : Happening) (shown : List Line) → SaysFound h shown → (finds_quiet h ≡ true → Rule before lines.Quiet) → Obeys Rule before
+    → Obeys Rule (before ++ shown)
+found_obeys Rule free before (Looks quiet) shown says holds obeys = rw says (look_obeys Rule free before quiet lines.Busy refl holds obeys)
+found_obeys Rule free before (Settles quiet) shown says holds obeys = rw says (look_obeys Rule free before quiet lines.Unsettled refl holds obeys)
+found_obeys Rule free before h shown says holds obeys = unquiet_obey Rule free shown before says obeys
+
 one_obeys : (Rule : List Line → Line → Type 0) → SpeaksOfQuiet Rule → (before : List Line) (w : World) (h : Happening) → (finds_quiet h ≡ true → Rule before lines.Quiet) → Obeys Rule before → Obeys Rule (before ++ lines_at w h)
-one_obeys Rule free before w (Looks quiet) holds obeys = look_obeys Rule free before quiet lines.Busy refl holds obeys
-one_obeys Rule free before w (Settles quiet) holds obeys = look_obeys Rule free before quiet lines.Unsettled refl holds obeys
-one_obeys Rule free before w h holds obeys = unquiet_obey Rule free (lines_at w h) before (shows_unquiet w h tt) obeys
+one_obeys Rule free before w h holds obeys = found_obeys Rule free before h (lines_at w h) (says_found w h) holds obeys
+
+-- and where mappings may be kept
+pub keeping_obeys : (Rule : List Line → Line → Type 0) → SpeaksOfQuiet Rule → (before : List Line) (w : World) (h : KeepingHappening) → (finds_quiet (as_plain h) ≡ true → Rule before lines.Quiet) → Obeys Rule before
+    → Obeys Rule (before ++ shows_keeping w h)
+keeping_obeys Rule free before w h holds obeys = found_obeys Rule free before (as_plain h) (shows_keeping w h) (keeping_found w h) holds obeys
+
+pub begun_obeys : (Rule : List Line → Line → Type 0) → SpeaksOfQuiet Rule → (config : Options) (detail : Detail) → Obeys Rule (lines.Begin config detail ∷ [])
+begun_obeys Rule free config detail = obeys_more Rule [] (lines.Begin config detail) (obeys_none Rule) (free [] (lines.Begin config detail) refl)
+
+pub over_obeys : (Rule : List Line → Line → Type 0) → SpeaksOfQuiet Rule → (report : List Line) → Obeys Rule report → Obeys Rule (report ++ lines.End ∷ [])
+over_obeys Rule free report obeys = obeys_more Rule report lines.End obeys (free report lines.End refl)
 
 -- the report of one happening more
 pub report_more : (config : Options) (detail : Detail) (earlier : List Happening) (h : Happening) → report_of config detail (earlier ++ h ∷ []) ≡ report_of config detail earlier ++ lines_at (after earlier (start_of config)) h
@@ -60,12 +93,12 @@ all_obey Rule free config detail (h ∷ later) earlier holds obeys =
     subst (λ (hs : List Happening). Obeys Rule (report_of config detail hs)) (append_assoc earlier (h ∷ []) later)
     (all_obey Rule free config detail later (earlier ++ h ∷ []) (subst (HoldsWhereFound Rule config detail) (sym (append_assoc earlier (h ∷ []) later)) holds) (subst (Obeys Rule) (sym (report_more config detail earlier h)) next))
 
-pub reports_found : (Rule : List Line → Line → Type 0) → SpeaksOfQuiet Rule → (config : Options) (detail : Detail) (history : List Happening) → HoldsWhereFound Rule config detail history → Obeys Rule (report_of config detail history)
+reports_found : (Rule : List Line → Line → Type 0) → SpeaksOfQuiet Rule → (config : Options) (detail : Detail) (history : List Happening) → HoldsWhereFound Rule config detail history → Obeys Rule (report_of config detail history)
 reports_found Rule free config detail history holds =
-    all_obey Rule free config detail history [] holds (obeys_more Rule [] (lines.Begin config detail) (obeys_none Rule) (free [] (lines.Begin config detail) refl))
+    all_obey Rule free config detail history [] holds (begun_obeys Rule free config detail)
 
-pub ended_found : (Rule : List Line → Line → Type 0) → SpeaksOfQuiet Rule → (config : Options) (detail : Detail) (history : List Happening) → HoldsWhereFound Rule config detail history → Obeys Rule (ended_report_of config detail history)
-ended_found Rule free config detail history holds = obeys_more Rule (report_of config detail history) lines.End (reports_found Rule free config detail history holds) (free (report_of config detail history) lines.End refl)
+ended_found : (Rule : List Line → Line → Type 0) → SpeaksOfQuiet Rule → (config : Options) (detail : Detail) (history : List Happening) → HoldsWhereFound Rule config detail history → Obeys Rule (ended_report_of config detail history)
+ended_found Rule free config detail history holds = over_obeys Rule free (report_of config detail history) (reports_found Rule free config detail history holds)
 
 -- the rule holds at `quiet` after each beginning of this history after which the machine is quiet
 abbrev pub HoldsWhereQuiet : (List Line → Line → Type 0) → Options → Detail → List Happening → Type 0

@@ -20,11 +20,16 @@ use Rattle.blk_base.specs.declared.halt.Halt.{Halt}
 use Rattle.blk_back.specs.View.{View}
 use Rattle.blk_back.specs.Ask as back_ask
 use Rattle.blk_back.specs.Ask.{next_reply}
-use Rattle.blk_back.specs.Step.{attached, halts, overrun, looked, loop_step, fetched, step_at}
+use Rattle.blk_back.specs.Ask.{is_led}
+use Rattle.blk_back.specs.Step.{attached, may_halt, halts, overrun, looked, loop_word, loop_step, fetched, fetch_step, step_at}
+use Rattle.blk_back.specs.Keeping.{overrun_keeping, looked_keeping, loop_step_keeping, fetched_keeping, step_keeping_at, halts_keeping_at, halts_keeping}
 use Rattle.split_model.proofs.Suspending.{suspend_cases, back_cases}
 use Rattle.split_model.specs.World.{World, start_of}
-use Rattle.split_model.specs.Happening.{Happening, FrontMoves, BackMoves, JobMoves, BackAttaches, BackHalts, Pokes, OverwritesKey, Suspends, happens, lines_at, lines_of, front_after, front_shows, back_after, back_shows, job_after, job_shows, front_turn, back_turn, job_turn, is_guest_word, attaches_at, is_guest_key}
-use Rattle.split_model.specs.Report.{report_of}
+use Rattle.split_model.specs.Happening.{Happening, FrontMoves, BackMoves, JobMoves, BackAttaches, BackHalts, Pokes, OverwritesKey, Suspends, happens, lines_at, front_after, front_shows, back_after, job_after, front_turn, back_turn, job_turn, is_guest_word, attaches_at, is_guest_key}
+use Rattle.split_model.specs.Kept.{KeepingHappening, Plainly, BackOffers, BackKeeps, offered, kept_so, reads_keeping, back_after_keeping, back_shows_keeping, job_turn_keeping, job_after_keeping, job_shows_keeping, plainly_after, plainly_shows, happens_keeping, shows_keeping, lines_keeping}
+use Rattle.move_laws.specs.Kept.{report_keeping}
+use Rattle.report_laws.specs.Kept.{AreEach}
+use Rattle.move_laws.proofs.KeptLines.{either_world}
 use Rattle.split_model.proofs.SafeActs.{made_front, made_back}
 use Rattle.split_model.proofs.States.{halts_cases}
 
@@ -67,6 +72,34 @@ step_few (stage.ResponseEvent old) v (answer.Word event) = omega arith
 step_few stage.LookAgain v (answer.Word word) = looked_few v word (record v { ring = record v.ring { seen = word; asleep = true }; stage = stage.Loop }) (v.fetched + 1) (omega arith) (omega arith)
 step_few s v x = omega arith
 
+-- nor does one where mappings may be kept
+looked_keeping_few : (v : View) (word : ℕ) (otherwise : View) (n : ℕ) → v.fetched ≤ n → otherwise.fetched ≤ n → (looked_keeping v word otherwise).fetched ≤ n
+looked_keeping_few v word otherwise n p q = either_few (overruns v.ring.indices word) (overrun_keeping v word) (looked v word otherwise) n p (looked_few v word otherwise n p q)
+
+loop_keeping_few : (v : View) (r : Option Reply) (x : BackAnswer) → (loop_step_keeping v r x).fetched ≤ v.fetched
+loop_keeping_few v None (answer.Word word) =
+    either_few (requests_of v.ring.indices v.ring.seen == 0) (looked_keeping v word (record v { ring = record v.ring { seen = word }; stage = stage.StoreEvent })) (loop_word v word) v.fetched
+    (looked_keeping_few v word (record v { ring = record v.ring { seen = word }; stage = stage.StoreEvent }) v.fetched (omega arith) (omega arith)) (loop_few v None (answer.Word word))
+loop_keeping_few v r x = loop_few v r x
+
+step_keeping_few : (s : BackStage) (v : View) (x : BackAnswer) → (step_keeping_at s v x).fetched ≤ v.fetched + 1
+step_keeping_few stage.Loop v x = let few = loop_keeping_few v (next_reply v) x in omega arith
+step_keeping_few (stage.Fetch k) v (answer.Word word) =
+    either_few (k + 1 == entry_words_of v.shape.abi) (fetched_keeping v (v.ring.entry ++ word ∷ [])) (fetch_step v k word) (v.fetched + 1) (omega arith) (step_few (stage.Fetch k) v (answer.Word word))
+step_keeping_few stage.LookAgain v (answer.Word word) =
+    looked_keeping_few v word (record v { ring = record v.ring { seen = word; asleep = true }; stage = stage.Loop }) (v.fetched + 1) (omega arith) (omega arith)
+step_keeping_few (stage.Abort m) v x = omega arith
+step_keeping_few s v x = step_few s v x
+
+halted_at_few : (s : BackStage) (why : Halt) (v : View) → (halts_keeping_at s why v).fetched ≤ v.fetched
+halted_at_few stage.InitWait why v = omega arith
+halted_at_few stage.MapRing why v = omega arith
+halted_at_few stage.Loop why v = omega arith
+halted_at_few s why v = omega arith
+
+halted_keeping_few : (why : Halt) (v : View) → (halts_keeping why v).fetched ≤ v.fetched
+halted_keeping_few why v = either_few (may_halt why) (halts_keeping_at v.stage why v) v v.fetched (halted_at_few v.stage why v) (omega arith)
+
 halted_few : (why : Halt) (v : View) → (halts why v).fetched ≤ v.fetched
 halted_few why v = halts_cases (λ x. x.fetched ≤ v.fetched) why v (λ here. omega arith) (λ here. omega arith) (omega arith)
 
@@ -83,14 +116,14 @@ front_grew : (w : World) (act : Option FrontAct) → front_turn w ≡ act → Gr
 front_grew w None e = record { made = omega arith; fetched = omega arith }
 front_grew w (Some a) e = let same = ap (λ (t : GrantTable). t.made) (made_front w.under (front_ask.ask_of w.front) a e) in record { made = omega arith; fetched = omega arith }
 
-back_grew : (w : World) (act : Option BackAct) → back_turn w Took ≡ act → Grew (length (back_shows w act)) w (back_after w act)
+back_grew : (w : World) (act : Option BackAct) → back_turn w Took ≡ act → Grew (length (back_shows_keeping w act)) w (back_after_keeping w act)
 back_grew w None e = record { made = omega arith; fetched = omega arith }
 back_grew w (Some a) e =
     let made = made_back w.under back_mover.Back (back_ask.ask_of w.back) Took a e in
-    let few = step_few w.back.stage w.back a.answer in
+    let few = step_keeping_few w.back.stage w.back a.answer in
     record { made = omega arith; fetched = omega arith }
 
-job_grew : (w : World) (number : ℕ) (o : Outcome) (act : Option BackAct) → job_turn w number o ≡ act → Grew (length (job_shows w number act)) w (job_after w number act)
+job_grew : (w : World) (number : ℕ) (o : Outcome) (act : Option BackAct) → job_turn_keeping w number o ≡ act → Grew (length (job_shows_keeping w number act)) w (job_after_keeping w number act)
 job_grew w number o None e = record { made = omega arith; fetched = omega arith }
 job_grew w number o (Some a) e = let made = made_back w.under (back_mover.Job number) _ o a e in record { made = omega arith; fetched = omega arith }
 
@@ -98,30 +131,40 @@ overwritten_grew : (b : Bool) (w : World) (x : Hypervisor) (lines : List Line) �
 overwritten_grew true w x lines same = let made = ap (λ (t : GrantTable). t.made) same in record { made = omega arith; fetched = omega arith }
 overwritten_grew false w x lines same = record { made = omega arith; fetched = omega arith }
 
-grew : (w : World) (h : Happening) → Grew (length (lines_at w h)) w (happens w h)
-grew w FrontMoves = front_grew w (front_turn w) refl
-grew w BackMoves = back_grew w (back_turn w Took) refl
-grew w (JobMoves number outcome) = job_grew w number outcome (job_turn w number outcome) refl
-grew w (BackAttaches shape grefs port) = let few = attached_few (attaches_at w shape grefs) shape grefs port w.back in record { made = omega arith; fetched = omega arith }
-grew w (BackHalts why) = let few = halted_few why w.back in record { made = omega arith; fetched = omega arith }
-grew w (Pokes frame word value) = overwritten_grew (is_guest_word frame word) w _ (lines_at w (Pokes frame word value)) refl
-grew w (OverwritesKey name text) = overwritten_grew (is_guest_key name text) w _ (lines_at w (OverwritesKey name text)) refl
-grew w Suspends =
+plainly_grew : (w : World) (h : Happening) → Grew (length (plainly_shows w h)) w (plainly_after w h)
+plainly_grew w FrontMoves = front_grew w (front_turn w) refl
+plainly_grew w BackMoves = back_grew w (back_turn w Took) refl
+plainly_grew w (JobMoves number outcome) = job_grew w number outcome (job_turn_keeping w number outcome) refl
+plainly_grew w (BackAttaches shape grefs port) = let few = attached_few (attaches_at w shape grefs) shape grefs port w.back in record { made = omega arith; fetched = omega arith }
+plainly_grew w (BackHalts why) = let few = halted_keeping_few why w.back in record { made = omega arith; fetched = omega arith }
+plainly_grew w (Pokes frame word value) = overwritten_grew (is_guest_word frame word) w _ (lines_at w (Pokes frame word value)) refl
+plainly_grew w (OverwritesKey name text) = overwritten_grew (is_guest_key name text) w _ (lines_at w (OverwritesKey name text)) refl
+plainly_grew w Suspends =
     suspend_cases (λ v shown. Grew (length shown) w v) w
     (λ may. record { made = omega arith; fetched = back_cases (λ (b : View). b.fetched ≤ w.back.fetched + 1) w (omega arith) (omega arith) })
     (record { made = omega arith; fetched = omega arith })
-grew w h = record { made = omega arith; fetched = omega arith }
+plainly_grew w h = record { made = omega arith; fetched = omega arith }
 
-by_lines : (hs : List Happening) (n : ℕ) (w : World) → w.under.grants.made + 1 ≤ n → w.back.fetched + 1 ≤ n → n + length (lines_of hs w) < 2 ^ 64 → HaveNumbers hs w
+grew : (w : World) (h : KeepingHappening) → Grew (length (shows_keeping w h)) w (happens_keeping w h)
+grew w (Plainly h) = plainly_grew w h
+grew w BackOffers = either_world (λ (v : World). Grew (length (shows_keeping w BackOffers)) w v) (is_led w.back.stage) (offered w) w
+    (λ here. record { made = omega arith; fetched = omega arith }) (record { made = omega arith; fetched = omega arith })
+grew w (BackKeeps cap) = either_world (λ (v : World). Grew (length (shows_keeping w (BackKeeps cap))) w v) (reads_keeping w cap) (kept_so w cap) w
+    (λ here. record { made = omega arith; fetched = omega arith }) (record { made = omega arith; fetched = omega arith })
+
+abbrev pub HasNumbersAt : World → KeepingHappening → Type 0
+HasNumbersAt w h = HasNumbers w
+
+by_lines : (hs : List KeepingHappening) (n : ℕ) (w : World) → w.under.grants.made + 1 ≤ n → w.back.fetched + 1 ≤ n → n + length (lines_keeping hs w) < 2 ^ 64 → AreEach HasNumbersAt hs w
 by_lines [] n w made few short = tt
 by_lines (h ∷ hs) n w made few short =
     let g = grew w h in
     let more = g.made in
     let fetched_more = g.fetched in
-    let both = length-append (lines_at w h) (lines_of hs (happens w h)) in
-    ((omega arith, omega arith), by_lines hs (n + length (lines_at w h)) (happens w h) (omega arith) (omega arith) (omega arith))
+    let both = length-append (shows_keeping w h) (lines_keeping hs (happens_keeping w h)) in
+    ((omega arith, omega arith), by_lines hs (n + length (shows_keeping w h)) (happens_keeping w h) (omega arith) (omega arith) (omega arith))
 
-pub short_numbers : (config : Options) (detail : Detail) (history : List Happening) → length (report_of config detail history) < 2 ^ 64 → HaveNumbers history (start_of config)
+pub short_numbers : (config : Options) (detail : Detail) (history : List KeepingHappening) → length (report_keeping config detail history) < 2 ^ 64 → AreEach HasNumbersAt history (start_of config)
 short_numbers config detail history short = by_lines history 1 (start_of config) (omega arith) (omega arith) (omega arith)
 
 -- A history in which few moves are the back's.

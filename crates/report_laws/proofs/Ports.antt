@@ -1,6 +1,6 @@
 -- Where a report says `ready` the front made its port in this epoch.
-use Rattle.std.proofs.Common.{◌≡◌, ◌≢◌, inl, inr, ℕ, ◌+◌, ◌≤◌, ◌||◌, Bool, true, false, if◌then◌else◌, List, [], ◌∷◌, ◌++◌, length, refl, ap, sym, ◌∙◌, subst, append_assoc, length-append, arith, true≢false}
-use Rattle.std.specs.Prelude.{Option, Some, None}
+use Rattle.std.proofs.Common.{◌≡◌, ◌≢◌, inl, inr, ℕ, ◌+◌, ◌≤◌, ◌||◌, Bool, true, false, if◌then◌else◌, List, [], ◌∷◌, ◌++◌, length, refl, ap, sym, ◌∙◌, subst, length-append, arith, true≢false}
+use Rattle.std.specs.Prelude.{Option, Some, None, map}
 use Rattle.std.specs.List.{list_any}
 use Rattle.std.proofs.lemmas.List.Folds.{list_any-append}
 use Rattle.blk_base.specs.Options.{Options}
@@ -24,16 +24,16 @@ use Rattle.blk_front.specs.Suspend.{stage_after, suspended}
 use Rattle.blk_front.specs.View.{View}
 use Rattle.report_rules.specs.Standing.{is_epoch, this_epoch}
 use Rattle.split_model.specs.World.{World, start_of}
-use Rattle.split_model.specs.Safe.{IsSafe}
 use Rattle.split_model.specs.Shown.{state_lines}
-use Rattle.split_model.specs.Happening.{Happening, FrontMoves, FrontEnters, Suspends, happens, lines_at, after, lines_of, front_after, front_shows, front_turn}
+use Rattle.split_model.specs.Happening.{Happening, FrontMoves, FrontEnters, Suspends, after, front_after, front_shows, front_turn}
+use Rattle.split_model.specs.Kept.{KeepingHappening, Plainly, happens_keeping, shows_keeping, IsSafeKeeping}
 use Rattle.split_model.specs.Report.{report_of}
-use Rattle.split_model.proofs.Safe.{safe_start, safe_happens}
 use Rattle.split_model.proofs.SafeActs.{of_front}
 use Rattle.split_model.proofs.States.{enters_cases}
 use Rattle.split_model.proofs.Suspending.{suspend_cases, front_cases}
 use Rattle.report_laws.specs.Ports.{makes_port}
 use Rattle.report_laws.specs.Ready.{says_ready}
+use Rattle.report_laws.proofs.KeptReports.{report_always, plain_up}
 use Rattle.report_laws.proofs.Aside.{LeavesFront, leaves_front, aside_unready, aside_within, shows_unready}
 use Rattle.report_laws.proofs.Epochs.{AreWithin, epoch_on, epoch_begins, shows_within}
 use Rattle.report_laws.proofs.FewPorts.{ports_of, next_count, count_after, IsCounted, one_counted}
@@ -52,10 +52,10 @@ count_grows n (line ∷ ls) all =
     by_tests false false none = omega arith
     by_tests true p none = absurd (true≢false none)
 
-ports_grow : (w : World) (h : Happening) → IsSafe w → AreWithin (lines_at w h) → ports_of w.under ≤ ports_of (let x : World = happens w h in x.under)
+ports_grow : (w : World) (h : KeepingHappening) → IsSafeKeeping w → AreWithin (shows_keeping w h) → ports_of w.under ≤ ports_of (let x : World = happens_keeping w h in x.under)
 ports_grow w h safe all =
-    let is : IsCounted w.under (lines_at w h) (let x : World = happens w h in x.under) = one_counted w h safe in
-    subst (λ (n : ℕ). ports_of w.under ≤ n) is.told (count_grows (ports_of w.under) (lines_at w h) all)
+    let is : IsCounted w.under (shows_keeping w h) (let x : World = happens_keeping w h in x.under) = one_counted w h safe in
+    subst (λ (n : ℕ). ports_of w.under ≤ n) is.told (count_grows (ports_of w.under) (shows_keeping w h) all)
 
 -- a front that waits to be connected, and one of which this epoch says that it is, made its port
 record HasPort (before : List Line) (w : World) : Type 0 where
@@ -82,7 +82,7 @@ still before ls w w' all none grown waits was = record {
 makes_one : (h : Hypervisor) (a : FrontAct) → front_act h front_ask.NewPort ≡ Some a → 1 ≤ ports_of a.under
 makes_one h a e = of_front (λ (x : FrontAct). 1 ≤ ports_of x.under) _ a (let one = length-append h.channels.ports (Unbound ∷ []) in omega arith) e
 
-front_port : (w : World) (before : List Line) (act : Option FrontAct) → front_turn w ≡ act → IsSafe w → ports_of w.under ≤ ports_of (let x : World = front_after w act in x.under) → HasPort before w → HasPort (before ++ front_shows w act) (front_after w act)
+front_port : (w : World) (before : List Line) (act : Option FrontAct) → front_turn w ≡ act → IsSafeKeeping w → ports_of w.under ≤ ports_of (let x : World = front_after w act in x.under) → HasPort before w → HasPort (before ++ front_shows w act) (front_after w act)
 front_port w before None e safe grown was = still before [] w w tt refl grown (λ t. t) was
 front_port w before (Some a) e safe grown was = by_step (front_steps w.front.stage w.front a.answer safe.front_told refl)
   where
@@ -115,23 +115,18 @@ entered_port w before (state.Broken word) was may = still before (lines.Broken w
 suspended_unwaiting : (v : View) → (let x : View = suspended v in is_initialised x.stage) ≡ false
 suspended_unwaiting v = front_cases (λ (x : View). is_initialised x.stage ≡ false) v (λ on. same_initialised (stage_after v.stage) (stage.RingWord 0) (anew_phase v.stage)) (λ over. over_unwaiting v.stage over)
 
-one_port : (w : World) (before : List Line) (h : Happening) → IsSafe w → HasPort before w → HasPort (before ++ lines_at w h) (happens w h)
-one_port w before FrontMoves safe was = front_port w before (front_turn w) refl safe (ports_grow w FrontMoves safe (shows_within w (front_turn w))) was
-one_port w before (FrontEnters s) safe was =
+one_port : (before : List Line) (w : World) (h : KeepingHappening) → IsSafeKeeping w → HasPort before w → HasPort (before ++ shows_keeping w h) (happens_keeping w h)
+one_port before w (Plainly FrontMoves) safe was = front_port w before (front_turn w) refl safe (ports_grow w (Plainly FrontMoves) safe (shows_within w (front_turn w))) was
+one_port before w (Plainly (FrontEnters s)) safe was =
     enters_cases (λ v shown. HasPort (before ++ shown) (entered w v)) s w.front (λ may. entered_port w before s was may) (still before [] w w tt refl (omega arith) (λ t. t) was)
-one_port w before Suspends safe was =
+one_port before w (Plainly Suspends) safe was =
     suspend_cases (λ v shown. HasPort (before ++ shown) v) w
     (λ may. record { waiting = λ t. absurd (true≢false (sym t ∙ suspended_unwaiting w.front)); ready = λ t. absurd (true≢false (sym t ∙ ap (list_any says_ready) (epoch_begins before))) })
     (still before [] w w tt refl (omega arith) (λ t. t) was)
-one_port w before h safe was =
-    let is : LeavesFront w (happens w h) (lines_at w h) = leaves_front w h tt in
-    still before (lines_at w h) w (happens w h) (aside_within (lines_at w h) is.lines) (aside_unready (lines_at w h) is.lines) (ports_grow w h safe (aside_within (lines_at w h) is.lines)) (λ t. ap is_initialised (sym is.front.stage) ∙ t) was
-
-all_ports : (history : List Happening) (w : World) (before : List Line) → IsSafe w → HasPort before w → HasPort (before ++ lines_of history w) (after history w)
-all_ports [] w before safe was = still before [] w w tt refl (omega arith) (λ t. t) was
-all_ports (h ∷ history) w before safe was =
-    subst (λ (ls : List Line). HasPort ls (after history (happens w h))) (append_assoc before (lines_at w h) (lines_of history (happens w h)))
-    (all_ports history (happens w h) (before ++ lines_at w h) (safe_happens w h safe) (one_port w before h safe was))
+one_port before w h safe was =
+    let is : LeavesFront w (happens_keeping w h) (shows_keeping w h) = leaves_front w h tt in
+    still before (shows_keeping w h) w (happens_keeping w h) (aside_within (shows_keeping w h) is.lines) (aside_unready (shows_keeping w h) is.lines) (ports_grow w h safe (aside_within (shows_keeping w h) is.lines))
+    (λ t. ap is_initialised (sym is.front.stage) ∙ t) was
 
 some_port : (ports : List PortState) → 1 ≤ length ports → ports ≢ []
 some_port ports some none = let empty = ap (λ (ps : List PortState). length ps) none in omega arith
@@ -139,5 +134,7 @@ some_port ports some none = let empty = ap (λ (ps : List PortState). length ps)
 pub report_port : (config : Options) (detail : Detail) (history : List Happening) → list_any says_ready (this_epoch (report_of config detail history)) ≡ true → (let w : World = after history (start_of config) in w.under.channels.ports) ≢ []
 report_port config detail history ready =
     let has : HasPort (report_of config detail history) (after history (start_of config)) =
-    all_ports history (start_of config) (lines.Begin config detail ∷ []) (safe_start config) (record { waiting = λ t. absurd (true≢false (sym t)); ready = λ t. absurd (true≢false (sym t)) }) in
+    plain_up HasPort config detail history
+    (report_always HasPort (λ before w h safe any was. one_port before w h safe was) config detail (map Plainly history)
+    (record { waiting = λ t. absurd (true≢false (sym t)); ready = λ t. absurd (true≢false (sym t)) })) in
     some_port (let w : World = after history (start_of config) in w.under.channels.ports) (has.ready ready)

@@ -1,6 +1,6 @@
 -- Where a report says `quiet`, the ring's words by its lines are served and read.
 use Rattle.std.proofs.Common.{◌≡◌, ◌⊎◌, inl, inr, ℕ, ◌+◌, ◌%◌, ◌^◌, true, false, List, [], ◌∷◌, refl, sym, ap, ◌∙◌, subst, arith, true≢false}
-use Rattle.std.specs.Prelude.{fold}
+use Rattle.std.specs.Prelude.{fold, map}
 use Rattle.blk_base.specs.Options.{Options}
 use Rattle.schedule_text.specs.declared.line.Detail.{Detail}
 use Rattle.schedule_text.specs.declared.line.Detail.TheVariants.{Moves}
@@ -13,7 +13,8 @@ use Rattle.blk_front.specs.declared.stage.FrontStage.{FrontStage}
 use Rattle.blk_front.specs.declared.stage.FrontStage.TheVariants as stage
 use Rattle.split_model.specs.World as world
 use Rattle.split_model.specs.World.{World, is_quiet}
-use Rattle.split_model.specs.Happening.{Happening, after, lines_of}
+use Rattle.split_model.specs.Happening.{Happening, after}
+use Rattle.split_model.specs.Kept.{Plainly, lines_keeping}
 use Rattle.schedule_text.specs.Recorder.{kept_of}
 use Rattle.split_model.specs.Report.{report_of, ended_report_of}
 use Rattle.move_laws.specs.Tells.{Tells}
@@ -28,6 +29,7 @@ use Rattle.machine_pipeline.proofs.Together.{always_stands}
 use Rattle.machine_pipeline.proofs.AtRest.{IsIdleRing, quiet_rests}
 use Rattle.report_laws.specs.Begun.{is_begin}
 use Rattle.report_laws.specs.QuietRing.{answers_told, IsQuietRingAt, IsQuietRing}
+use Rattle.report_laws.proofs.KeptReports.{plain_report}
 use Rattle.report_laws.proofs.Lines.{AreLater, all_later}
 use Rattle.report_laws.proofs.Looks.{SpeaksOfQuiet, HoldsWhereQuiet, reports_obey, ended_obey}
 use Rattle.report_laws.proofs.Ports.{report_port}
@@ -44,7 +46,8 @@ same_start start [] all = refl
 same_start start (line ∷ ls) all = ap (λ (n : ℕ). fold start_told n ls) (one_start start line all.0) ∙ same_start start ls all.1
 
 report_start : (config : Options) (detail : Detail) (history : List Happening) → start_of (report_of config detail history) ≡ config.start
-report_start config detail history = same_start config.start (lines_of history (world.start_of config)) (all_later history (world.start_of config))
+report_start config detail history =
+    plain_report (λ ls. start_of ls ≡ config.start) config detail history (same_start config.start (lines_keeping (map Plainly history) (world.start_of config)) (all_later (map Plainly history) (world.start_of config)))
 
 -- a front in its loop, or closed, took as many responses as it told answers in this epoch
 taken_at : (start n begins cons : ℕ) (s : FrontStage) → (s ≡ stage.Loop) ⊎ (s ≡ stage.Closed) → CountsAt start n begins cons s → cons ≡ wrapped start n

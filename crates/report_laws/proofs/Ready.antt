@@ -1,6 +1,6 @@
 -- A front that is idle was connected in this epoch, or is closed or broken, and its report has the line of it.
-use Rattle.std.proofs.Common.{◌≡◌, ◌⊎◌, inl, inr, ℕ, ◌||◌, Bool, true, false, not, ◌&&◌, List, [], ◌∷◌, ◌++◌, refl, ap, sym, ◌∙◌, subst, append_assoc, true≢false}
-use Rattle.std.specs.Prelude.{Option, Some, None}
+use Rattle.std.proofs.Common.{◌≡◌, ◌⊎◌, inl, inr, ℕ, ◌||◌, Bool, true, false, not, ◌&&◌, List, [], ◌∷◌, ◌++◌, refl, ap, sym, ◌∙◌, true≢false}
+use Rattle.std.specs.Prelude.{Option, Some, None, map}
 use Rattle.std.specs.List.{list_any}
 use Rattle.blk_base.specs.Options.{Options}
 use Rattle.schedule_text.specs.declared.line.Detail.{Detail}
@@ -21,22 +21,25 @@ use Rattle.blk_front.specs.Submit.{is_ready, is_led, is_wait}
 use Rattle.blk_front.specs.Suspend.{stage_after, suspended}
 use Rattle.report_rules.specs.Standing.{this_epoch}
 use Rattle.split_model.specs.World.{World, start_of, is_quiet}
-use Rattle.split_model.specs.Safe.{IsSafe}
 use Rattle.split_model.specs.Shown.{state_lines}
-use Rattle.split_model.specs.Happening.{Happening, FrontMoves, FrontEnters, Suspends, happens, lines_at, after, lines_of, front_after, front_shows, front_turn}
+use Rattle.split_model.specs.Happening.{Happening, FrontMoves, FrontEnters, Suspends, Looks, Settles, front_after, front_shows, front_turn}
+use Rattle.split_model.specs.Kept.{KeepingHappening, Plainly, happens_keeping, shows_keeping, after_keeping, IsSafeKeeping}
 use Rattle.schedule_text.specs.Recorder.{kept_of}
 use Rattle.split_model.specs.Report.{report_of, ended_report_of}
-use Rattle.split_model.proofs.Safe.{safe_start, safe_happens}
 use Rattle.split_model.proofs.States.{enters_cases}
 use Rattle.split_model.proofs.Suspending.{suspend_cases, front_cases}
-use Rattle.machine_pipeline.specs.Allowed.{AreServed}
+use Rattle.machine_pipeline.specs.Allowed.{IsServed, AreServed}
+use Rattle.move_laws.specs.Kept.{report_keeping, ended_report_keeping}
+use Rattle.report_rules.specs.Obeys.{Obeys}
+use Rattle.report_laws.specs.Kept.{AreEach, IsFoundQuiet}
 use Rattle.report_laws.specs.Ready.{says_ready, says_over, IsReadyAt, IsReadyFirst}
 use Rattle.report_laws.proofs.Announced.{Has, has_first, has_later}
 use Rattle.report_laws.proofs.Aside.{LeavesFront, leaves_front, aside_within}
 use Rattle.report_laws.proofs.Epochs.{AreWithin, epoch_on, shows_within, kept_epoch}
-use Rattle.report_laws.proofs.Gone.{report_over}
-use Rattle.report_laws.proofs.Held.{lacks, always_holds}
-use Rattle.report_laws.proofs.Looks.{SpeaksOfQuiet, HoldsWhereQuiet, reports_obey, ended_obey, kept_obeys}
+use Rattle.report_laws.proofs.Gone.{IsToldOver, one_over}
+use Rattle.report_laws.proofs.Held.{lacks, IsHeld, one_held}
+use Rattle.report_laws.proofs.KeptReports.{as_plain, report_up, plain_all, plain_report, plain_ended}
+use Rattle.report_laws.proofs.Looks.{SpeaksOfQuiet, finds_quiet, keeping_obeys, begun_obeys, over_obeys, kept_obeys}
 use Rattle.report_laws.proofs.Phases.{Steps, front_steps, same_ready, over_unready, anew_phase}
 
 -- of a front that is connected, and hasn't left since, the epoch has the line
@@ -51,7 +54,7 @@ said_still : (before ls : List Line) (w w' : World) → AreWithin ls → is_read
 said_still before ls w w' all same was = λ t. earlier before ls all (was (sym same ∙ t))
 
 -- no move of the front connects it
-front_ready : (w : World) (before : List Line) (act : Option FrontAct) → IsSafe w → IsSaidReady before w → IsSaidReady (before ++ front_shows w act) (front_after w act)
+front_ready : (w : World) (before : List Line) (act : Option FrontAct) → IsSafeKeeping w → IsSaidReady before w → IsSaidReady (before ++ front_shows w act) (front_after w act)
 front_ready w before None safe was = said_still before [] w w tt refl was
 front_ready w before (Some a) safe was = λ t. earlier before (front_shows w (Some a)) (shows_within w (Some a)) (was (by_step t (front_steps w.front.stage w.front a.answer safe.front_told refl)))
   where
@@ -74,24 +77,15 @@ entered_ready other v before was t = absurd (true≢false (sym t))
 suspended_unready : (v : View) → (let x : View = suspended v in is_ready x.stage) ≡ false
 suspended_unready v = front_cases (λ (x : View). is_ready x.stage ≡ false) v (λ on. same_ready (stage_after v.stage) (stage.RingWord 0) (anew_phase v.stage)) (λ over. over_unready v.stage over)
 
-one_ready : (w : World) (before : List Line) (h : Happening) → IsSafe w → IsSaidReady before w → IsSaidReady (before ++ lines_at w h) (happens w h)
-one_ready w before FrontMoves safe was = front_ready w before (front_turn w) safe was
-one_ready w before (FrontEnters s) safe was =
+one_ready : (before : List Line) (w : World) (h : KeepingHappening) → IsSafeKeeping w → IsSaidReady before w → IsSaidReady (before ++ shows_keeping w h) (happens_keeping w h)
+one_ready before w (Plainly FrontMoves) safe was = front_ready w before (front_turn w) safe was
+one_ready before w (Plainly (FrontEnters s)) safe was =
     enters_cases (λ v shown. is_ready v.stage ≡ true → Has says_ready (this_epoch (before ++ shown))) s w.front (λ may. entered_ready s w.front before was) (said_still before [] w w tt refl was)
-one_ready w before Suspends safe was =
+one_ready before w (Plainly Suspends) safe was =
     suspend_cases (λ v shown. IsSaidReady (before ++ shown) v) w (λ may t. absurd (true≢false (sym t ∙ suspended_unready w.front))) (said_still before [] w w tt refl was)
-one_ready w before h safe was =
-    let is : LeavesFront w (happens w h) (lines_at w h) = leaves_front w h tt in
-    said_still before (lines_at w h) w (happens w h) (aside_within (lines_at w h) is.lines) (ap is_ready is.front.stage) was
-
-all_ready : (history : List Happening) (w : World) (before : List Line) → IsSafe w → IsSaidReady before w → IsSaidReady (before ++ lines_of history w) (after history w)
-all_ready [] w before safe was = said_still before [] w w tt refl was
-all_ready (h ∷ history) w before safe was =
-    subst (λ (ls : List Line). IsSaidReady ls (after history (happens w h))) (append_assoc before (lines_at w h) (lines_of history (happens w h)))
-    (all_ready history (happens w h) (before ++ lines_at w h) (safe_happens w h safe) (one_ready w before h safe was))
-
-report_said : (config : Options) (detail : Detail) (history : List Happening) → IsSaidReady (report_of config detail history) (after history (start_of config))
-report_said config detail history = all_ready history (start_of config) (lines.Begin config detail ∷ []) (safe_start config) (λ t. absurd (true≢false (sym t)))
+one_ready before w h safe was =
+    let is : LeavesFront w (happens_keeping w h) (shows_keeping w h) = leaves_front w h tt in
+    said_still before (shows_keeping w h) w (happens_keeping w h) (aside_within (shows_keeping w h) is.lines) (ap is_ready is.front.stage) was
 
 -- a front that is idle is connected, closed or broken, where it holds the request whose data it reads
 reads_on : (ending : Option Ending) (n : ℕ) → lacks (stage.LeftData n) ending ≡ false → is_wait (ask.read_ask ending n) ≡ true → ⊥
@@ -127,15 +121,37 @@ ready_free : SpeaksOfQuiet IsReadyAt
 ready_free before lines.Quiet e = absurd (true≢false e)
 ready_free before line e = tt
 
-ready_where_quiet : (config : Options) (detail : Detail) (history : List Happening) → HoldsWhereQuiet IsReadyAt config detail history
-ready_where_quiet config detail history first rest e quiet = by_stage (quiet_settled w (always_holds config first) quiet)
-  where
-    w : World
-    w = after first (start_of config)
+-- so a report says `quiet` only of such a front
+record IsReadySoFar (before : List Line) (w : World) : Type 0 where
+  ready : IsSaidReady before w
+  over : IsToldOver before w
+  held : IsHeld w
+  obeys : Obeys IsReadyAt before
 
-    by_stage : (is_ready w.front.stage ≡ true) ⊎ (is_open w.front.stage ≡ false) → IsReadyAt (report_of config detail first) lines.Quiet
-    by_stage (inl ready) = inl (report_said config detail first ready)
-    by_stage (inr over) = inr (report_over config detail first ∙ ap not over)
+ready_where_quiet : (before : List Line) (w : World) → IsReadySoFar before w → is_quiet w ≡ true → IsReadyAt before lines.Quiet
+ready_where_quiet before w is quiet = by_stage (quiet_settled w is.held quiet)
+  where
+    by_stage : (is_ready w.front.stage ≡ true) ⊎ (is_open w.front.stage ≡ false) → IsReadyAt before lines.Quiet
+    by_stage (inl ready) = inl (is.ready ready)
+    by_stage (inr over) = inr (is.over ∙ ap not over)
+
+quiet_where_found : (w : World) (h : KeepingHappening) → IsFoundQuiet w h → finds_quiet (as_plain h) ≡ true → is_quiet w ≡ true
+quiet_where_found w (Plainly (Looks quiet)) may found = may found
+quiet_where_found w (Plainly (Settles quiet)) may found = may found
+quiet_where_found w h may found = absurd (true≢false (sym found))
+
+one_so_far : (before : List Line) (w : World) (h : KeepingHappening) → IsSafeKeeping w → IsFoundQuiet w h → IsReadySoFar before w → IsReadySoFar (before ++ shows_keeping w h) (happens_keeping w h)
+one_so_far before w h safe may is = record {
+  ready = one_ready before w h safe is.ready;
+  over = one_over before w h safe is.over;
+  held = one_held w h is.held;
+  obeys = keeping_obeys IsReadyAt ready_free before w h (λ found. ready_where_quiet before w is (quiet_where_found w h may found)) is.obeys;
+}
+
+report_so_far : (config : Options) (detail : Detail) (history : List KeepingHappening) → AreEach IsFoundQuiet history (start_of config) → IsReadySoFar (report_keeping config detail history) (after_keeping history (start_of config))
+report_so_far config detail history may =
+    report_up IsFoundQuiet IsReadySoFar one_so_far config detail history may
+    (record { ready = λ t. absurd (true≢false (sym t)); over = refl; held = refl; obeys = begun_obeys IsReadyAt ready_free config detail })
 
 -- a recorder keeps both lines
 all_kept : (says : Line → Bool) (detail : Detail) → ((line : Line) → says line ≡ true → Has says (recorded detail line)) → (ls : List Line) → Has says ls → Has says (kept_of detail ls)
@@ -159,10 +175,25 @@ outcome_kept : (detail : Detail) (before : List Line) → IsReadyAt before lines
 outcome_kept detail before (inl ready) = inl (ap (list_any says_ready) (kept_epoch detail before) ∙ all_kept says_ready detail (one_ready_kept detail) (this_epoch before) ready)
 outcome_kept detail before (inr over) = inr (all_kept says_over detail (one_over_kept detail) before over)
 
+pub report_ready_keeping : (config : Options) (detail : Detail) (history : List KeepingHappening) → AreEach IsFoundQuiet history (start_of config) → IsReadyFirst (kept_of detail (report_keeping config detail history))
+report_ready_keeping config detail history may = kept_obeys IsReadyAt ready_free detail (outcome_kept detail) (report_keeping config detail history) (report_so_far config detail history may).obeys
+
+pub ended_ready_keeping : (config : Options) (detail : Detail) (history : List KeepingHappening) → AreEach IsFoundQuiet history (start_of config) → IsReadyFirst (kept_of detail (ended_report_keeping config detail history))
+ended_ready_keeping config detail history may =
+    kept_obeys IsReadyAt ready_free detail (outcome_kept detail) (ended_report_keeping config detail history)
+    (over_obeys IsReadyAt ready_free (report_keeping config detail history) (report_so_far config detail history may).obeys)
+
+-- where none are kept
+served_found : (w : World) (h : Happening) → IsServed w h → IsFoundQuiet w (Plainly h)
+served_found w (Looks quiet) may = may
+served_found w (Settles quiet) may = may
+served_found w h may = tt
+
+all_found : (config : Options) (history : List Happening) → AreServed history (start_of config) → AreEach IsFoundQuiet (map Plainly history) (start_of config)
+all_found config history may = plain_all AreServed IsFoundQuiet (λ h hs w are. (served_found w h are.0, are.1)) config history may
+
 pub report_ready : (config : Options) (detail : Detail) (history : List Happening) → AreServed history (start_of config) → IsReadyFirst (kept_of detail (report_of config detail history))
-report_ready config detail history may =
-    kept_obeys IsReadyAt ready_free detail (outcome_kept detail) (report_of config detail history) (reports_obey IsReadyAt ready_free config detail history may (ready_where_quiet config detail history))
+report_ready config detail history may = plain_report (λ ls. IsReadyFirst (kept_of detail ls)) config detail history (report_ready_keeping config detail (map Plainly history) (all_found config history may))
 
 pub ended_ready : (config : Options) (detail : Detail) (history : List Happening) → AreServed history (start_of config) → IsReadyFirst (kept_of detail (ended_report_of config detail history))
-ended_ready config detail history may =
-    kept_obeys IsReadyAt ready_free detail (outcome_kept detail) (ended_report_of config detail history) (ended_obey IsReadyAt ready_free config detail history may (ready_where_quiet config detail history))
+ended_ready config detail history may = plain_ended (λ ls. IsReadyFirst (kept_of detail ls)) config detail history (ended_ready_keeping config detail (map Plainly history) (all_found config history may))

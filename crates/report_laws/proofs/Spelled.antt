@@ -24,8 +24,17 @@ use Rattle.key_directory.specs.Directory.{Directory, key_of, with_key, written, 
 use Rattle.blk_front.specs.State.{is_open}
 use Rattle.split_model.specs.World.{World, state_after}
 use Rattle.split_model.specs.Keys.{KeyMove, Gets, Sets, Watches as WatchesPath, mover_at, may_set, layout_path, negotiated, negotiated_lines, front_path}
-use Rattle.split_model.specs.Happening.{Happening, layout_text, layout_read, happens}
-use Rattle.split_model.proofs.Keys.{key_cases, negotiated_cases, keys_happen}
+use Rattle.split_model.specs.Happening.{Happening, BackMoves, JobMoves, BackHalts, Negotiates, layout_text, layout_read, happens, back_turn}
+use Rattle.split_model.specs.Kept.{KeepingHappening, Plainly, BackOffers, BackKeeps, offering_path, keeping_path, keeping_text, offered, offer_line, kept_so, keeping_line, reads_keeping, is_other_read, back_after_keeping, job_turn_keeping, job_after_keeping, plainly_after, plainly_shows, happens_keeping}
+use Rattle.split_model.proofs.Keys.{key_cases, negotiated_cases, keys_happen, back_stays, backs_no_key, jobs_no_key}
+use Rattle.split_model.proofs.SafeAnswers.{backs_of, jobs_keeping}
+use Rattle.hypervisor.specs.Act.{BackAct, Outcome, Took}
+use Rattle.blk_base.specs.declared.moves.BackMover.TheVariants as back_mover
+use Rattle.blk_back.specs.Ask as back_ask
+use Rattle.blk_back.specs.Ask.{is_led}
+use Rattle.blk_back.specs.Keeping.{job_ask_keeping}
+use Rattle.report_laws.specs.Kept.{IsPossibleKeeping}
+use Rattle.move_laws.proofs.KeptLines.{either_world}
 use Rattle.machine_pipeline.specs.Allowed.{IsSpelled, IsPossible}
 use Rattle.report_laws.proofs.Told.{AreGood, good}
 
@@ -187,8 +196,12 @@ negotiates w at move spelled all =
     took path first =
         (spelled_taken at w.under.keys all, shows (moves.Watched (mover_at at) path) (mover_widths at) (named_allowed at path (next_path (watches_of w.under.keys at) path (watched_at w.under.keys at all) first)))
 
-pub keys_good : (w : World) (at : End) (move : KeyMove) → IsSpelled move → AreSpelled w.under.keys → AreGood (negotiated_lines w.back.stage at move w.under.keys)
-keys_good w at move spelled all = (negotiates w at move spelled all).1
+pub keys_good : (w : World) (at : End) (move : KeyMove) → IsSpelled move → AreSpelled w.under.keys → AreGood (plainly_shows w (Negotiates at move))
+keys_good w at move spelled all = by_test (is_other_read w at move)
+  where
+    by_test : (b : Bool) → AreGood (if b then [] else negotiated_lines w.back.stage at move w.under.keys)
+    by_test true = tt
+    by_test false = (negotiates w at move spelled all).1
 
 -- and so is that of the key for the layout, as the back reads it
 layout_named : IsPath layout_path
@@ -198,6 +211,25 @@ layout_named = refl
 pub layout_good : (w : World) → AreSpelled w.under.keys → IsInRange (lines.Move (layout_read w))
 layout_good w all =
     good (lines.Move (layout_read w)) tt (got_allowed end.Back layout_path (layout_text w) layout_named (λ text. text_found w.under.keys.keys layout_path text all.keys))
+
+-- and the back's key by which it says that it keeps grants, and the front's, as the back reads it
+offering_named : IsPath offering_path
+unfolding is_key_path
+offering_named = refl
+
+offering_said : is_key_text (codes "1") ≡ true
+unfolding is_key_text
+offering_said = refl
+
+keeping_named : IsPath keeping_path
+unfolding is_key_path
+keeping_named = refl
+
+pub offer_good : IsInRange offer_line
+offer_good = good offer_line tt (said_allowed end.Back offering_path (codes "1") offering_named offering_said)
+
+pub keeping_good : (w : World) → AreSpelled w.under.keys → IsInRange (keeping_line w)
+keeping_good w all = good (keeping_line w) tt (got_allowed end.Back keeping_path (keeping_text w) keeping_named (λ text. text_found w.under.keys.keys keeping_path text all.keys))
 
 -- so are the keys of an epoch that begins, of a front that is open or not
 spelled_fresh : (text : List ℕ) → is_key_text text ≡ true → AreSpelled (fresh_directory text)
@@ -210,11 +242,31 @@ fresh_spelled true = spelled_fresh (codes "1") refl
 fresh_spelled false = spelled_fresh (codes "6") refl
 
 -- whatever happens
-pub spelled_happens : (w : World) (h : Happening) → IsPossible w h → AreSpelled w.under.keys → (let v : World = happens w h in AreSpelled v.under.keys)
-spelled_happens w h may all =
+happens_spelled : (w : World) (h : Happening) → IsPossible w h → AreSpelled w.under.keys → (let v : World = happens w h in AreSpelled v.under.keys)
+happens_spelled w h may all =
     keys_happen AreSpelled spelled_taken w h (λ at move is here. (negotiates w at move (subst (IsPossible w) is may) here).0)
     (λ name text is allowed here. let both = both_true (is_key_name name) (is_key_text text) allowed in spelled_written w.under.keys (front_path name) text (named_path name both.0) both.1 here)
     (λ is may here. fresh_spelled (is_open w.front.stage)) all
+
+back_spelled : (w : World) (act : Option BackAct) → back_turn w Took ≡ act → AreSpelled w.under.keys → (let v : World = back_after_keeping w act in AreSpelled v.under.keys)
+back_spelled w None e all = all
+back_spelled w (Some a) e all = back_stays AreSpelled spelled_taken w.under back_mover.Back (back_ask.ask_of w.back) Took a (backs_no_key (back_ask.ask_of w.back) (backs_of w.back)) all e
+
+job_spelled : (w : World) (k : ℕ) (o : Outcome) (act : Option BackAct) → job_turn_keeping w k o ≡ act → AreSpelled w.under.keys → (let v : World = job_after_keeping w k act in AreSpelled v.under.keys)
+job_spelled w k o None e all = all
+job_spelled w k o (Some a) e all = back_stays AreSpelled spelled_taken w.under (back_mover.Job k) (job_ask_keeping w.back k) o a (jobs_no_key (job_ask_keeping w.back k) (jobs_keeping w.back k)) all e
+
+plainly_spelled : (w : World) (h : Happening) → IsPossible w h → AreSpelled w.under.keys → (let v : World = plainly_after w h in AreSpelled v.under.keys)
+plainly_spelled w BackMoves may all = back_spelled w (back_turn w Took) refl all
+plainly_spelled w (JobMoves number outcome) may all = job_spelled w number outcome (job_turn_keeping w number outcome) refl all
+plainly_spelled w (BackHalts why) may all = all
+plainly_spelled w h may all = happens_spelled w h may all
+
+pub spelled_happens : (w : World) (h : KeepingHappening) → IsPossibleKeeping w h → AreSpelled w.under.keys → (let v : World = happens_keeping w h in AreSpelled v.under.keys)
+spelled_happens w (Plainly h) may all = plainly_spelled w h may all
+spelled_happens w BackOffers may all =
+    either_world (λ (v : World). AreSpelled v.under.keys) (is_led w.back.stage) (offered w) w (λ led. spelled_written w.under.keys offering_path (codes "1") offering_named offering_said all) all
+spelled_happens w (BackKeeps cap) may all = either_world (λ (v : World). AreSpelled v.under.keys) (reads_keeping w cap) (kept_so w cap) w (λ reads. all) all
 
 pub spelled_start : AreSpelled (fresh_directory (codes "1"))
 spelled_start = fresh_spelled true

@@ -1,9 +1,8 @@
 -- Each end's state has the text that the lines of the epoch set last, or the one that an epoch begins with, so where all is found quiet the lines say what the directory says.
-use Rattle.std.proofs.Common.{◌≡◌, ◌≢◌, ℕ, ◌||◌, not, Bool, true, false, true≢false, if◌then◌else◌, List, [], ◌∷◌, ◌++◌, inl, inr, refl, sym, ap, ◌∙◌, subst, append_assoc}
-use Rattle.std.specs.Prelude.{Option, Some, None, codes}
+use Rattle.std.proofs.Common.{◌≡◌, ◌≢◌, ℕ, ◌||◌, not, Bool, true, false, true≢false, if◌then◌else◌, List, [], ◌∷◌, ◌++◌, inl, inr, refl, sym, ap, ◌∙◌, subst}
+use Rattle.std.specs.Prelude.{Option, Some, None, codes, map}
 use Rattle.std.specs.List.{AllByRecursion, list_any}
 use Rattle.std.specs.Str.{bytes_eq}
-use Rattle.std.proofs.lemmas.List.{append-nil}
 use Rattle.std.proofs.lemmas.Option.{same_Some}
 use Rattle.std.proofs.lemmas.Slice.Eq.{bytes_eq-Decides}
 use Rattle.blk_base.specs.Options.{Options}
@@ -13,6 +12,7 @@ use Rattle.blk_base.specs.declared.ask.FrontAsk.{FrontAsk}
 use Rattle.blk_base.specs.declared.ask.BackAsk.{BackAsk}
 use Rattle.blk_base.specs.declared.moves.BackMover.{BackMover}
 use Rattle.blk_base.specs.declared.moves.BackMover.TheVariants as back_mover
+use Rattle.blk_base.specs.declared.moves.Mover.TheVariants as mover
 use Rattle.blk_base.specs.declared.moves.Move.TheVariants as moves
 use Rattle.schedule_text.specs.declared.line.Detail.TheVariants.{Moves}
 use Rattle.schedule_text.specs.declared.line.Line.{Line}
@@ -29,30 +29,34 @@ use Rattle.blk_front.specs.Ask as front_ends
 use Rattle.blk_front.specs.Step as front_step
 use Rattle.blk_back.specs.View as back
 use Rattle.blk_back.specs.Ask as back_ends
-use Rattle.blk_back.specs.Step as back_step
+use Rattle.blk_back.specs.Ask.{is_led}
+use Rattle.blk_back.specs.Keeping.{step_keeping, job_step_keeping, job_ask_keeping, halts_keeping}
 use Rattle.split_model.specs.World.{World, start_of, state_after}
-use Rattle.split_model.specs.Safe.{IsSafe}
 use Rattle.split_model.specs.Shown.{back_lines, halt_lines}
-use Rattle.split_model.specs.Keys.{KeyMove, front_path}
-use Rattle.split_model.specs.Happening.{Happening, FrontMoves, BackMoves, JobMoves, Negotiates, BackAttaches, OverwritesKey, Suspends, Looks, Settles, happens, after, lines_at, lines_of, front_shows, back_shows, job_shows, front_turn, back_turn, job_turn}
+use Rattle.split_model.specs.Keys.{KeyMove, Gets, front_path}
+use Rattle.split_model.specs.Happening.{Happening, FrontMoves, BackMoves, JobMoves, Negotiates, BackAttaches, BackHalts, OverwritesKey, Suspends, Looks, Settles, happens, lines_at, front_shows, front_turn, back_turn}
+use Rattle.split_model.specs.Kept.{KeepingHappening, Plainly, BackOffers, BackKeeps, offering_path, is_other_read, offered, offer_line, kept_so, keeping_line, reads_keeping, back_after_keeping, back_shows_keeping, job_turn_keeping, job_after_keeping, job_shows_keeping, plainly_after, plainly_shows, happens_keeping, shows_keeping, after_keeping, IsSafeKeeping}
 use Rattle.split_model.specs.Report.{report_of, ended_report_of}
-use Rattle.split_model.proofs.Keys.{key_cases, negotiated_cases, keys_happen, backs_no_key, jobs_no_key}
-use Rattle.split_model.proofs.Safe.{safe_start, safe_happens}
+use Rattle.split_model.proofs.Keys.{key_cases, negotiated_cases, keys_happen, back_stays, backs_no_key, jobs_no_key}
 use Rattle.split_model.proofs.Suspending.{suspend_cases}
 use Rattle.split_model.proofs.Attaching.{attach_lines_are}
 use Rattle.split_model.proofs.Overwriting.{overwriting_cases}
 use Rattle.split_model.proofs.SafeActs.{AsksBackKey}
-use Rattle.split_model.proofs.SafeAnswers.{AsksNoKey, fronts_no_key, backs_of, jobs_of}
-use Rattle.move_laws.proofs.Recorded.{report_kept, ended_kept}
+use Rattle.split_model.proofs.SafeAnswers.{AsksNoKey, fronts_no_key, backs_of, jobs_keeping}
+use Rattle.move_laws.specs.Kept.{report_keeping, ended_report_keeping}
+use Rattle.move_laws.proofs.Recorded.{report_kept_keeping, ended_kept_keeping}
+use Rattle.report_rules.specs.Obeys.{Obeys}
 use Rattle.report_laws.specs.Ready.{says_over}
 use Rattle.report_laws.specs.States.{front_state, back_state, begun_text, text_at, text_after, said_last, SayBoth, says_closing, IsAgreedAt, AreStatesAgreed}
-use Rattle.report_laws.specs.Agreed.{HasBoth, AreAlike, IsAgreed, AreAgreed}
+use Rattle.report_laws.specs.Agreed.{HasBoth, AreAlike, AreAgreed}
 use Rattle.split_model.proofs.Showing.{IsTold, MayShow, lines_are, front_told_is, back_told_is, halt_is, both_all}
 use Rattle.split_model.proofs.Acting.{FrontSet, front_acts, BackSet, back_acts}
-use Rattle.report_laws.proofs.Announced.{all_said}
+use Rattle.report_laws.specs.Kept.{AreEach, IsAgreedKeeping}
+use Rattle.report_laws.proofs.KeptReports.{as_plain, report_up, plain_all, plain_report, plain_ended}
+use Rattle.report_laws.proofs.Announced.{IsSaid, one_said}
 use Rattle.report_laws.proofs.Closing.{closing_announced}
 use Rattle.report_laws.proofs.Gone.{IsToldOver, one_over}
-use Rattle.report_laws.proofs.Looks.{SpeaksOfQuiet, finds_quiet, HoldsWhereFound, reports_found, ended_found}
+use Rattle.report_laws.proofs.Looks.{SpeaksOfQuiet, finds_quiet, keeping_obeys, begun_obeys, over_obeys}
 
 -- a line that sets no key and begins no epoch
 abbrev sets_none : Line → Bool
@@ -114,20 +118,20 @@ front_turn_silent w (Some a) e =
     let f : front.View = front_step.step_of w.front a.answer in
     (front_silent w.under (front_ends.ask_of w.front) a (fronts_no_key w.front) e, front_told_is IsSilent (none_set FrontMoves) f.told)
 
-back_turn_silent : (w : World) (act : Option BackAct) → back_turn w Took ≡ act → AreSilent (back_shows w act)
+back_turn_silent : (w : World) (act : Option BackAct) → back_turn w Took ≡ act → AreSilent (back_shows_keeping w act)
 back_turn_silent w None e = tt
 back_turn_silent w (Some a) e =
-    let b : back.View = back_step.step_of w.back a.answer in (
+    let b : back.View = step_keeping w.back a.answer in (
       back_silent w.under back_mover.Back (back_ends.ask_of w.back) Took a (backs_no_key (back_ends.ask_of w.back) (backs_of w.back)) e,
       both_all IsSilent (back_lines b.told a.answer) (halt_lines w.back.halted b.halted) (back_told_is IsSilent (none_set BackMoves) b.told a.answer)
           (halt_is IsSilent (λ why. refl) w.back.halted b.halted),
     )
 
-job_turn_silent : (w : World) (k : ℕ) (o : Outcome) (act : Option BackAct) → job_turn w k o ≡ act → AreSilent (job_shows w k act)
+job_turn_silent : (w : World) (k : ℕ) (o : Outcome) (act : Option BackAct) → job_turn_keeping w k o ≡ act → AreSilent (job_shows_keeping w k act)
 job_turn_silent w k o None e = tt
 job_turn_silent w k o (Some a) e =
-    let b : back.View = back_step.job_step w.back k a.answer in (
-      back_silent w.under (back_mover.Job k) (back_step.job_ask_of w.back k) o a (jobs_no_key (back_step.job_ask_of w.back k) (jobs_of w.back k)) e,
+    let b : back.View = job_step_keeping w.back k a.answer in (
+      back_silent w.under (back_mover.Job k) (job_ask_keeping w.back k) o a (jobs_no_key (job_ask_keeping w.back k) (jobs_keeping w.back k)) e,
       back_told_is IsSilent (none_set BackMoves) b.told a.answer,
     )
 
@@ -172,6 +176,41 @@ other_told path over text w h other silent has =
     (λ name now is allowed here. absurd (true≢false (sym (ap is_of_keys is) ∙ other))) (λ is may here. absurd (true≢false (sym (ap is_of_keys is) ∙ other))) has
     ∙ ap (λ (t : List ℕ). Some t) (sym (silent_text path over text (lines_at w h) silent))
 
+-- nor does a move of the back or of a job
+abbrev HasText : (path text : List ℕ) → World → Type 0
+HasText path text w = key_of w.under.keys.keys path ≡ Some text
+
+back_has : (path text : List ℕ) (w : World) (act : Option BackAct) → back_turn w Took ≡ act → HasText path text w → HasText path text (back_after_keeping w act)
+back_has path text w None e has = has
+back_has path text w (Some a) e has =
+    back_stays (λ (d : Directory). key_of d.keys path ≡ Some text) (λ at d here. watch_told path text d at _ here) w.under back_mover.Back (back_ends.ask_of w.back) Took a
+    (backs_no_key (back_ends.ask_of w.back) (backs_of w.back)) has e
+
+job_has : (path text : List ℕ) (w : World) (k : ℕ) (o : Outcome) (act : Option BackAct) → job_turn_keeping w k o ≡ act → HasText path text w → HasText path text (job_after_keeping w k act)
+job_has path text w k o None e has = has
+job_has path text w k o (Some a) e has =
+    back_stays (λ (d : Directory). key_of d.keys path ≡ Some text) (λ at d here. watch_told path text d at _ here) w.under (back_mover.Job k) (job_ask_keeping w.back k) o a
+    (jobs_no_key (job_ask_keeping w.back k) (jobs_keeping w.back k)) has e
+
+silent_has : (path : List ℕ) (over : Bool) (text : List ℕ) (w : World) (shown : List Line) → AreSilent shown → HasText path text w → TellsText path over text w.under.keys shown
+silent_has path over text w shown silent has = has ∙ ap (λ (t : List ℕ). Some t) (sym (silent_text path over text shown silent))
+
+-- a back that publishes that it keeps grants reads its front's key of that elsewhere
+read_told : (path : List ℕ) (over : Bool) (text : List ℕ) (w : World) (at : End) (move : KeyMove) → HasText path text w
+    → (let v : World = happens w (Negotiates at move) in TellsText path over text v.under.keys (plainly_shows w (Negotiates at move)))
+read_told path over text w end.Back (Gets key) has =
+    negotiated_cases (λ (d : Directory) (shown : List Line). (b : Bool) → TellsText path over text d (if b then [] else shown)) w.back.stage end.Back (Gets key) w.under.keys
+    (λ may. both) (λ b. both_none b) (is_other_read w end.Back (Gets key))
+  where
+    both : (b : Bool) → TellsText path over text w.under.keys (if b then [] else lines.Move (moves.GetKey mover.Back key (key_of w.under.keys.keys key)) ∷ [])
+    both true = has
+    both false = has
+
+    both_none : (b : Bool) → TellsText path over text w.under.keys (if b then [] else [])
+    both_none true = has
+    both_none false = has
+read_told path over text w at move has = keys_told path over text w at move has
+
 -- a state: the directory has it again as an epoch begins
 abbrev IsRenewed : List ℕ → Type 0
 IsRenewed path = (state : List ℕ) → key_of (let d : Directory = fresh_directory state in d.keys) path ≡ Some state
@@ -186,19 +225,40 @@ begun_state : (on : Bool) → state_after on ≡ begun_text (not on)
 begun_state true = refl
 begun_state false = refl
 
-one_told : (path : List ℕ) → IsRenewed path → (over : Bool) (text : List ℕ) (w : World) (h : Happening) → over ≡ not (is_open w.front.stage) → key_of w.under.keys.keys path ≡ Some text
-    → (let v : World = happens w h in TellsText path over text v.under.keys (lines_at w h))
+one_told : (path : List ℕ) → IsRenewed path → (over : Bool) (text : List ℕ) (w : World) (h : Happening) → over ≡ not (is_open w.front.stage) → HasText path text w
+    → (let v : World = plainly_after w h in TellsText path over text v.under.keys (plainly_shows w h))
 one_told path renewed over text w FrontMoves is has = other_told path over text w FrontMoves refl (front_turn_silent w (front_turn w) refl) has
-one_told path renewed over text w BackMoves is has = other_told path over text w BackMoves refl (back_turn_silent w (back_turn w Took) refl) has
-one_told path renewed over text w (JobMoves number outcome) is has = other_told path over text w (JobMoves number outcome) refl (job_turn_silent w number outcome (job_turn w number outcome) refl) has
-one_told path renewed over text w (Negotiates at move) is has = keys_told path over text w at move has
+one_told path renewed over text w BackMoves is has = silent_has path over text (plainly_after w BackMoves) (plainly_shows w BackMoves) (back_turn_silent w (back_turn w Took) refl) (back_has path text w (back_turn w Took) refl has)
+one_told path renewed over text w (JobMoves number outcome) is has =
+    silent_has path over text (plainly_after w (JobMoves number outcome)) (plainly_shows w (JobMoves number outcome)) (job_turn_silent w number outcome (job_turn_keeping w number outcome) refl)
+    (job_has path text w number outcome (job_turn_keeping w number outcome) refl has)
+one_told path renewed over text w (Negotiates at move) is has = read_told path over text w at move has
 one_told path renewed over text w (BackAttaches shape grefs port) is has = other_told path over text w (BackAttaches shape grefs port) refl (attach_lines_are IsSilent w shape grefs refl) has
+one_told path renewed over text w (BackHalts why) is has =
+    silent_has path over text w (plainly_shows w (BackHalts why)) (halt_is IsSilent (λ halt. refl) w.back.halted (let b : back.View = halts_keeping why w.back in b.halted)) has
 one_told path renewed over text w (OverwritesKey name now) is has =
     overwriting_cases (λ under shown. TellsText path over text under.keys shown) w.under name now (λ allowed. set_told path text w.under.keys (front_path name) now has) has
 one_told path renewed over text w Suspends is has =
     suspend_cases (λ v shown. TellsText path over text v.under.keys shown) w
     (λ may. renewed (state_after (is_open w.front.stage)) ∙ ap (λ (t : List ℕ). Some t) (begun_state (is_open w.front.stage) ∙ ap begun_text (sym is))) has
 one_told path renewed over text w h is has = other_told path over text w h refl (lines_are IsSilent w h (λ line shows. none_set h line tt shows)) has
+
+-- the back publishes that it keeps grants, or reads whether its front does
+offers_told : (path : List ℕ) (over : Bool) (text : List ℕ) (w : World) (b : Bool) → HasText path text w
+    → (let v : World = (if b then offered w else w) in TellsText path over text v.under.keys (if b then offer_line ∷ [] else []))
+offers_told path over text w true has = set_told path text w.under.keys offering_path (codes "1") has
+offers_told path over text w false has = has
+
+keeps_told : (path : List ℕ) (over : Bool) (text : List ℕ) (w : World) (cap : ℕ) (b : Bool) → HasText path text w
+    → (let v : World = (if b then kept_so w cap else w) in TellsText path over text v.under.keys (if b then keeping_line w ∷ [] else []))
+keeps_told path over text w cap true has = has
+keeps_told path over text w cap false has = has
+
+keeping_told : (path : List ℕ) → IsRenewed path → (over : Bool) (text : List ℕ) (w : World) (h : KeepingHappening) → over ≡ not (is_open w.front.stage) → HasText path text w
+    → (let v : World = happens_keeping w h in TellsText path over text v.under.keys (shows_keeping w h))
+keeping_told path renewed over text w (Plainly h) is has = one_told path renewed over text w h is has
+keeping_told path renewed over text w BackOffers is has = offers_told path over text w (is_led w.back.stage) has
+keeping_told path renewed over text w (BackKeeps cap) is has = keeps_told path over text w cap (reads_keeping w cap) has
 
 or_none : (b : Bool) → (b || false) ≡ b
 or_none true = refl
@@ -218,53 +278,66 @@ append_text path over text (line ∷ a) b =
 abbrev HasLast : (path : List ℕ) → List Line → World → Type 0
 HasLast path before w = key_of w.under.keys.keys path ≡ Some (said_last path before)
 
-all_told : (path : List ℕ) → IsRenewed path → (history : List Happening) (w : World) (before : List Line) → IsSafe w → IsToldOver before w → HasLast path before w → HasLast path (before ++ lines_of history w) (after history w)
-all_told path renewed [] w before safe is has = has ∙ ap (λ (ls : List Line). Some (said_last path ls)) (sym (append-nil before))
-all_told path renewed (h ∷ history) w before safe is has =
-    let one : HasLast path (before ++ lines_at w h) (happens w h) =
-    one_told path renewed (list_any says_over before) (said_last path before) w h is has
-    ∙ ap (λ (t : List ℕ). Some t) (sym (append_text path false (begun_text false) before (lines_at w h))) in
-    subst (λ (ls : List Line). HasLast path ls (after history (happens w h))) (append_assoc before (lines_at w h) (lines_of history (happens w h)))
-    (all_told path renewed history (happens w h) (before ++ lines_at w h) (safe_happens w h safe) (one_over w before h safe is) one)
-
-report_told : (path : List ℕ) → IsRenewed path → (config : Options) (history : List Happening) → HasLast path (report_of config Moves history) (after history (start_of config))
-report_told path renewed config history = all_told path renewed history (start_of config) (lines.Begin config Moves ∷ []) (safe_start config) refl (renewed (begun_text false))
+last_told : (path : List ℕ) → IsRenewed path → (before : List Line) (w : World) (h : KeepingHappening) → IsToldOver before w → HasLast path before w → HasLast path (before ++ shows_keeping w h) (happens_keeping w h)
+last_told path renewed before w h is has =
+    keeping_told path renewed (list_any says_over before) (said_last path before) w h is has
+    ∙ ap (λ (t : List ℕ). Some t) (sym (append_text path false (begun_text false) before (shows_keeping w h)))
 
 -- so the lines of a report say of both states what the directory says
-both_said : (text : List ℕ) (config : Options) (history : List Happening) → (let v : World = after history (start_of config) in HasBoth text v.under.keys) → SayBoth text (report_of config Moves history)
-both_said text config history has = record {
-  front = same_Some _ _ (sym (report_told front_state front_renewed config history) ∙ has.front);
-  back = same_Some _ _ (sym (report_told back_state back_renewed config history) ∙ has.back);
+record IsAgreedSoFar (before : List Line) (w : World) : Type 0 where
+  over : IsToldOver before w
+  front_has : HasLast front_state before w
+  back_has : HasLast back_state before w
+  closing : IsSaid (λ (v : front.View). v.closing) says_closing before w
+  obeys : Obeys IsAgreedAt before
+
+both_said : (text : List ℕ) (before : List Line) (w : World) → IsAgreedSoFar before w → HasBoth text w.under.keys → SayBoth text before
+both_said text before w is has = record {
+  front = same_Some _ _ (sym is.front_has ∙ has.front);
+  back = same_Some _ _ (sym is.back_has ∙ has.back);
 }
 
-alike_said : (config : Options) (history : List Happening) → (let v : World = after history (start_of config) in AreAlike v) → IsAgreedAt (report_of config Moves history) lines.Quiet
-alike_said config history (inl connected) = inl (both_said (codes "4") config history connected)
-alike_said config history (inr closed) =
-    inr (both_said (codes "6") config history closed.0, all_said (λ (v : front.View). v.closing) says_closing closing_announced history (start_of config) (lines.Begin config Moves ∷ []) (λ t. absurd (true≢false (sym t))) closed.1)
+alike_said : (before : List Line) (w : World) → IsAgreedSoFar before w → AreAlike w → IsAgreedAt before lines.Quiet
+alike_said before w is (inl connected) = inl (both_said (codes "4") before w is connected)
+alike_said before w is (inr closed) = inr (both_said (codes "6") before w is closed.0, is.closing closed.1)
 
 -- the premise, where all is found quiet
-agreed_found : (w : World) (h : Happening) → IsAgreed w h → finds_quiet h ≡ true → AreAlike w
-agreed_found w (Looks quiet) agreed found = agreed found
-agreed_found w (Settles quiet) agreed found = agreed found
+agreed_found : (w : World) (h : KeepingHappening) → IsAgreedKeeping w h → finds_quiet (as_plain h) ≡ true → AreAlike w
+agreed_found w (Plainly (Looks quiet)) agreed found = agreed found
+agreed_found w (Plainly (Settles quiet)) agreed found = agreed found
 agreed_found w h agreed found = absurd (true≢false (sym found))
-
-agreed_at : (first rest : List Happening) (h : Happening) (w : World) → AreAgreed (first ++ h ∷ rest) w → IsAgreed (after first w) h
-agreed_at [] rest h w agreed = agreed.0
-agreed_at (g ∷ first) rest h w agreed = agreed_at first rest h (happens w g) agreed.1
 
 states_free : SpeaksOfQuiet IsAgreedAt
 states_free before lines.Quiet e = absurd (true≢false e)
 states_free before line e = tt
 
-states_where_found : (config : Options) (history : List Happening) → AreAgreed history (start_of config) → HoldsWhereFound IsAgreedAt config Moves history
-states_where_found config history agreed first rest h e found =
-    let here : AreAgreed (first ++ h ∷ rest) (start_of config) = subst (λ (hs : List Happening). AreAgreed hs (start_of config)) e agreed in
-    alike_said config first (agreed_found (after first (start_of config)) h (agreed_at first rest h (start_of config) here) found)
+one_agreed : (before : List Line) (w : World) (h : KeepingHappening) → IsSafeKeeping w → IsAgreedKeeping w h → IsAgreedSoFar before w → IsAgreedSoFar (before ++ shows_keeping w h) (happens_keeping w h)
+one_agreed before w h safe agreed is = record {
+  over = one_over before w h safe is.over;
+  front_has = last_told front_state front_renewed before w h is.over is.front_has;
+  back_has = last_told back_state back_renewed before w h is.over is.back_has;
+  closing = one_said (λ (v : front.View). v.closing) says_closing closing_announced before w h is.closing;
+  obeys = keeping_obeys IsAgreedAt states_free before w h (λ found. alike_said before w is (agreed_found w h agreed found)) is.obeys;
+}
+
+report_so_far : (config : Options) (history : List KeepingHappening) → AreEach IsAgreedKeeping history (start_of config) → IsAgreedSoFar (report_keeping config Moves history) (after_keeping history (start_of config))
+report_so_far config history agreed =
+    report_up IsAgreedKeeping IsAgreedSoFar one_agreed config Moves history agreed
+    (record { over = refl; front_has = refl; back_has = refl; closing = λ t. absurd (true≢false (sym t)); obeys = begun_obeys IsAgreedAt states_free config Moves })
+
+pub report_agreed_keeping : (config : Options) (history : List KeepingHappening) → AreEach IsAgreedKeeping history (start_of config) → AreStatesAgreed (kept_of Moves (report_keeping config Moves history))
+report_agreed_keeping config history agreed = subst AreStatesAgreed (sym (report_kept_keeping config history)) (report_so_far config history agreed).obeys
+
+pub ended_agreed_keeping : (config : Options) (history : List KeepingHappening) → AreEach IsAgreedKeeping history (start_of config) → AreStatesAgreed (kept_of Moves (ended_report_keeping config Moves history))
+ended_agreed_keeping config history agreed =
+    subst AreStatesAgreed (sym (ended_kept_keeping config history)) (over_obeys IsAgreedAt states_free (report_keeping config Moves history) (report_so_far config history agreed).obeys)
+
+-- where none are kept
+all_agreed : (config : Options) (history : List Happening) → AreAgreed history (start_of config) → AreEach IsAgreedKeeping (map Plainly history) (start_of config)
+all_agreed config history agreed = plain_all AreAgreed IsAgreedKeeping (λ h hs w are. are) config history agreed
 
 pub report_agreed : (config : Options) (history : List Happening) → AreAgreed history (start_of config) → AreStatesAgreed (kept_of Moves (report_of config Moves history))
-report_agreed config history agreed =
-    subst AreStatesAgreed (sym (report_kept config history)) (reports_found IsAgreedAt states_free config Moves history (states_where_found config history agreed))
+report_agreed config history agreed = plain_report (λ ls. AreStatesAgreed (kept_of Moves ls)) config Moves history (report_agreed_keeping config (map Plainly history) (all_agreed config history agreed))
 
 pub ended_agreed : (config : Options) (history : List Happening) → AreAgreed history (start_of config) → AreStatesAgreed (kept_of Moves (ended_report_of config Moves history))
-ended_agreed config history agreed =
-    subst AreStatesAgreed (sym (ended_kept config history)) (ended_found IsAgreedAt states_free config Moves history (states_where_found config history agreed))
+ended_agreed config history agreed = plain_ended (λ ls. AreStatesAgreed (kept_of Moves ls)) config Moves history (ended_agreed_keeping config (map Plainly history) (all_agreed config history agreed))

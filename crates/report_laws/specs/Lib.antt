@@ -9,3 +9,4 @@ pub mod Reports
 pub mod Grammar
 pub mod Wrong
 pub mod Settled
+pub mod Kept

@@ -11,6 +11,8 @@
 //! `OfShort`, of reports of fewer than 2^64 lines, lets a hostile hand overwrite words and keys too,
 //! and the domain be suspended.
 //! What obeys a rule obeys it up to each of its lines.
+//! The laws here are of the machine whose back keeps no mappings; where `keeping` has one too they
+//! follow from it.
 #![tactic(auto)]
 
 ghost use Rattle.std.specs.Prelude.{◌≡◌, ℕ, ◌≤◌, ◌^◌, List, [], ◌∷◌, ◌++◌, Contains};
@@ -35,6 +37,8 @@ ghost use Rattle.split_model.specs.Report.{report_of, ended_report_of};
 ghost use Rattle.report_laws.specs.Grammar.{AreInGrammar, IsInGrammar};
 ghost use Rattle.report_laws.specs.Reports.{OfEachReport, OfEachEnded, OfServedReports, OfServedEnded, OfShortReports, OfShortEnded, OfPlainReports, OfPlainEnded, OfPlainMachines, OfAgreedReports, OfAgreedEnded};
 ghost use Rattle.report_laws.specs.Wrong.{begun_twice, moved, ready_late, unserved, unread, connected_alone, closed_unsaid, ready_before, answered_before, connected_before, five_ports};
+
+pub mod keeping;
 
 /// `begin` is its first line and stands nowhere else, and lines of moves stand only where it says
 /// `moves`.

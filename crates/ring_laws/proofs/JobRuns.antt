@@ -7,52 +7,46 @@ use Rattle.schedule_text.specs.declared.line.Line.TheVariants as lines
 use Rattle.schedule_text.specs.declared.line.Detail.{Detail}
 use Rattle.blk_base.specs.declared.ask.BackAsk.TheVariants as ask
 use Rattle.blk_base.specs.declared.moves.BackMover.TheVariants as mover
-use Rattle.hypervisor.specs.Act.{FrontAct, BackAct, Outcome, Took, back_act}
+use Rattle.hypervisor.specs.Act.{BackAct, Outcome, Took, back_act}
 use Rattle.report_rules.specs.Obeys.{Obeys}
 use Rattle.report_rules.specs.Steps.{AreSteps}
 use Rattle.report_rules.specs.Data.{AreData}
 use Rattle.report_rules.specs.Effect.{AreEffects}
 use Rattle.report_rules.proofs.Obeys.{obeys_none, obeys_more}
 use Rattle.back_jobs.specs.Jobs.{ask_job, place_of, work_of, waits}
-use Rattle.blk_front.specs.Ask as front_ask
 use Rattle.blk_base.specs.declared.halt.Halt.{Halt}
-use Rattle.blk_back.specs.declared.told.BackTold.{BackTold}
 use Rattle.blk_back.specs.Step.{may_attach, attached}
-use Rattle.blk_base.specs.declared.ask.BackAnswer.{BackAnswer}
 use Rattle.ring_words.specs.Shape.{Shape}
-use Rattle.grant_table.specs.Table.{GrantTable}
 use Rattle.blk_back.specs.Ask.{ask_of}
 use Rattle.blk_back.specs.View as back
 use Rattle.blk_back.specs.Step as back_step
 use Rattle.split_model.specs.World.{World, start_of, suspended}
-use Rattle.split_model.specs.Happening.{Happening, FrontMoves, BackMoves, JobMoves, FrontEnters, BackAttaches, BackHalts, Submits, Suspends, layout_text, layout_read, happens, lines_at, after, front_after, front_shows, back_after, back_shows, job_after, job_shows, front_turn, back_turn, job_turn}
+use Rattle.split_model.specs.Happening.{Happening, FrontMoves, BackMoves, JobMoves, BackAttaches, BackHalts, Suspends, layout_text, layout_read, happens, lines_at, after, back_after, back_shows, job_after, job_shows, front_turn, back_turn, job_turn}
 use Rattle.split_model.specs.Safe.{IsSafe}
+use Rattle.blk_back.specs.Keeping.{KeepsNone}
+use Rattle.split_model.specs.Kept.{back_offers}
 use Rattle.split_model.proofs.Safe.{safe_start, safe_happens}
+use Rattle.split_model.proofs.Without.{goes_as_without}
 use Rattle.split_model.specs.Shown.{back_lines, halt_lines}
 use Rattle.split_model.proofs.SafeAnswers.{backs_of, jobs_of}
 use Rattle.split_model.specs.Keys.{is_layout}
-use Rattle.split_model.proofs.SafeActs.{made_front}
 use Rattle.split_model.proofs.Shapes.{back_shape}
 use Rattle.split_model.proofs.Suspending.{suspend_cases, begun_back, gone_back, back_cases}
 use Rattle.split_model.proofs.Attaching.{SaysServed, attach_cases}
 use Rattle.split_model.specs.Report.{report_of, ended_report_of}
-use Rattle.ring_laws.proofs.Epochs.{new_tells, epoch_tells, epoch_fetched, epoch_stands}
+use Rattle.ring_laws.proofs.Epochs.{new_tells, epoch_tells, epoch_fetched}
 use Rattle.ring_laws.proofs.BackReads.{reads_of}
-use Rattle.ring_laws.proofs.Sight.{is_other}
 use Rattle.ring_laws.proofs.Shows.{Sight, Shows}
 use Rattle.ring_laws.proofs.Knows.{Follows}
-use Rattle.split_model.proofs.Showing.{halt_is}
-use Rattle.split_model.proofs.Outside.{LeavesEnds, leaves_ends}
-use Rattle.ring_laws.proofs.Outsiders.{AreOutsiders, front_outsiders, front_leaves, outsiders_other, outsiders_by, outsiders_calm, beside_outsiders}
-use Rattle.ring_laws.proofs.Free.{IsFree, AreFree, job_free, job_running, free_told}
+use Rattle.ring_laws.proofs.Outsiders.{AreOutsiders, front_outsiders, front_leaves, outsiders_other, outsiders_by, beside_outsiders}
+use Rattle.ring_laws.proofs.Free.{AreFree, job_free, job_running, free_told}
 use Rattle.ring_laws.proofs.Runs.{FollowsTo, earlier_pages, unread, follows_happens, follows_begin}
 use Rattle.ring_laws.proofs.Works.{jobs_anew}
 use Rattle.ring_laws.proofs.Began.{Terms}
-use Rattle.ring_laws.proofs.Lists.{all_both}
-use Rattle.ring_laws.proofs.Standings.{Stands, stands_aside, turn_stands}
-use Rattle.ring_laws.proofs.MakerLines.{calm_quiet, back_calm, halt_calm, told_calm}
+use Rattle.ring_laws.proofs.Standings.{Stands}
+use Rattle.ring_laws.proofs.StandRuns.{others_of, halts_other, back_other, stands_happen}
 use Rattle.ring_laws.proofs.Bystanders.{IsRule, IsBystander, AreBystanders, no_effect}
-use Rattle.ring_laws.proofs.Fetched.{AreFetched, AreOther, nothing_fetched, fetched_anew, values_aside, others_fetched, back_fetched}
+use Rattle.ring_laws.proofs.Fetched.{AreFetched, nothing_fetched, fetched_anew, values_aside, others_fetched, back_fetched}
 use Rattle.ring_laws.proofs.BackChange.{back_by, back_reads, halt_by}
 use Rattle.ring_laws.proofs.Halting.{Stops, stops_cases}
 use Rattle.ring_laws.proofs.Tells.{Tells, terms_of, tells_aside, shows_free}
@@ -67,6 +61,8 @@ pub record Stand (config : Options) (before : List Line) (w : World) : Type 0 wh
   pub ring : FollowsTo config.start before w
   pub standing : Stands before w.under.grants
   pub safe : IsSafe w
+  pub keeps_none : KeepsNone w.back
+  pub silent : back_offers w ≡ false
   pub tells : Tells config before w.back
   pub fetched : AreFetched (terms_of config w.back) before
 
@@ -97,13 +93,6 @@ job_goes_on config w before k o (Some a) s e =
 -- lines between all others
 outside : (config : Options) (w : World) (before ys : List Line) → AreOutsiders w.back.stage ys → Stand config before w → Tells config (before ++ ys) w.back
 outside config w before ys all s = tells_aside config before ys w.back (outsiders_by w.back.stage ys all) (values_aside ys before (outsiders_other w.back.stage ys all)) s.tells
-
-others_of : (over : Bool) (ys : List Line) → AreFree over ys → AreOther ys
-others_of over [] free = tt
-others_of over (y ∷ ys) free = let f : IsFree over y = free.0 in (f.other, others_of over ys free.1)
-
-halts_other : (before now : Option Halt) → AreOther (halt_lines before now)
-halts_other before now = halt_is (λ (line : Line). is_other line ≡ true) (λ why. refl) before now
 
 -- the line of a halt says nothing of jobs
 pub halt_values : (before : List Line) (old new : Option Halt) → entry_values (before ++ halt_lines old new) ≡ entry_values before
@@ -156,10 +145,6 @@ tells_happens config w h before s few = outside config w before (lines_at w h) (
 -- the lines of each mover tell what was fetched
 no_fetch : (terms : Terms) (before : List Line) → AreFetched terms before → AreFetched terms (before ++ [])
 no_fetch terms before are = subst (λ (ls : List Line). AreFetched terms ls) (sym (append-nil before)) are
-
--- the lines that stand after a move of the back
-back_other : (v : back.View) (t : Option BackTold) (answer : BackAnswer) (new : Option Halt) → AreOther (back_lines t answer ++ halt_lines v.halted new)
-back_other v t answer new = all_both (λ (line : Line). is_other line ≡ true) (back_lines t answer) (halt_lines v.halted new) (others_of false (back_lines t answer) (free_told false t answer refl)) (halts_other v.halted new)
 
 back_fetches : (config : Options) (w : World) (before : List Line) (act : Option BackAct) → back_turn w Took ≡ act → Stand config before w → (let n : World = back_after w act in AreFetched (terms_of config n.back) (before ++ back_shows w act))
 back_fetches config w before None e s = no_fetch (terms_of config w.back) before s.fetched
@@ -222,53 +207,13 @@ fetched_happens config w (BackHalts why) before s = halted_fetches config w befo
 fetched_happens config w Suspends before s = suspend_cases (λ (v : World) (shown : List Line). AreFetched (terms_of config v.back) (before ++ shown)) w (λ may. suspended_fetched config w before) (no_fetch (terms_of config w.back) before s.fetched)
 fetched_happens config w h before s = outside_fetched config w before (lines_at w h) (beside_outsiders w h tt) s
 
--- the mappings that stand are those that live
-none_stands : (before : List Line) (table : GrantTable) → Stands before table → Stands (before ++ []) table
-none_stands before table s = subst (λ (ls : List Line). Stands ls table) (sym (append-nil before)) s
-
-front_stands : (w : World) (before : List Line) (act : Option FrontAct) → front_turn w ≡ act → Stands before w.under.grants → (let n : World = front_after w act in Stands (before ++ front_shows w act) n.under.grants)
-front_stands w before None e s = none_stands before w.under.grants s
-front_stands w before (Some a) e s =
-    let ls : List Line = front_shows w (Some a) in
-    let all : AreOutsiders w.back.stage (front_shows w (Some a)) = front_outsiders w.back.stage w (Some a) e in
-    subst (Stands (before ++ ls)) (sym (made_front w.under (front_ask.ask_of w.front) a e))
-    (stands_aside before ls w.under.grants (calm_quiet ls (outsiders_calm w.back.stage ls all)) (outsiders_other w.back.stage ls all) s)
-
-back_stands : (w : World) (before : List Line) (o : Outcome) (act : Option BackAct) → back_turn w o ≡ act → Stands before w.under.grants → (let n : World = back_after w act in Stands (before ++ back_shows w act) n.under.grants)
-back_stands w before o None e s = none_stands before w.under.grants s
-back_stands w before o (Some a) e s =
-    let new : back.View = back_step.step_of w.back a.answer in
-    turn_stands before (back_lines new.told a.answer ++ halt_lines w.back.halted new.halted) w.under mover.Back (ask_of w.back) o a (calm_quiet _ (told_calm new.told a.answer w.back.halted new.halted)) (back_other w.back new.told a.answer new.halted) s e
-
-job_stands : (w : World) (before : List Line) (k : ℕ) (o : Outcome) (act : Option BackAct) → job_turn w k o ≡ act → Stands before w.under.grants → (let n : World = job_after w k act in Stands (before ++ job_shows w k act) n.under.grants)
-job_stands w before k o None e s = none_stands before w.under.grants s
-job_stands w before k o (Some a) e s =
-    let new : back.View = back_step.job_step w.back k a.answer in
-    turn_stands before (back_lines new.told a.answer) w.under (mover.Job k) (back_step.job_ask_of w.back k) o a (calm_quiet _ (back_calm new.told a.answer)) (others_of false (back_lines new.told a.answer) (free_told false new.told a.answer refl)) s e
-
-outside_stands : (config : Options) (w : World) (before ys : List Line) → AreOutsiders w.back.stage ys → Stand config before w → Stands (before ++ ys) w.under.grants
-outside_stands config w before ys all s = stands_aside before ys w.under.grants (calm_quiet ys (outsiders_calm w.back.stage ys all)) (outsiders_other w.back.stage ys all) s.standing
-
-stands_happen : (config : Options) (w : World) (h : Happening) (before : List Line) → Stand config before w → (let n : World = happens w h in Stands (before ++ lines_at w h) n.under.grants)
-stands_happen config w FrontMoves before s = front_stands w before (front_turn w) refl s.standing
-stands_happen config w BackMoves before s = back_stands w before Took (back_turn w Took) refl s.standing
-stands_happen config w (JobMoves number outcome) before s = job_stands w before number outcome (job_turn w number outcome) refl s.standing
-stands_happen config w (BackAttaches shape grefs port) before s =
-    attach_cases (λ (new : back.View) (shown : List Line). Stands (before ++ shown) w.under.grants) w shape grefs port
-    (λ may layout says. stands_aside before (lines.Move (layout_read w) ∷ []) w.under.grants (record { same_epoch = refl; none_gone = λ n. refl; none_made = λ k. refl }, tt) (refl, tt) s.standing) (none_stands before w.under.grants s.standing)
-stands_happen config w (BackHalts why) before s = stands_aside before (lines_at w (BackHalts why)) w.under.grants (calm_quiet _ (halt_calm w.back.halted _)) (halts_other w.back.halted _) s.standing
-stands_happen config w Suspends before s = suspend_cases (λ (v : World) (shown : List Line). Stands (before ++ shown) v.under.grants) w (λ may. epoch_stands before w.under.grants) (none_stands before w.under.grants s.standing)
-stands_happen config w (FrontEnters state) before s = outside_stands config w before (lines_at w (FrontEnters state)) (beside_outsiders w (FrontEnters state) tt) s
-stands_happen config w (Submits job) before s = outside_stands config w before (lines_at w (Submits job)) (beside_outsiders w (Submits job) tt) s
-stands_happen config w h before s =
-    let left : LeavesEnds w (happens w h) = leaves_ends w h tt in
-    subst (Stands (before ++ lines_at w h)) (sym left.grants) (outside_stands config w before (lines_at w h) (beside_outsiders w h tt) s)
-
 pub stand_happens : (config : Options) (w : World) (h : Happening) (before : List Line) → Stand config before w → reads_of (before ++ lines_at w h) < 2 ^ 64 → Stand config (before ++ lines_at w h) (happens w h)
 stand_happens config w h before s few = record {
-  ring = follows_happens config.start w h before s.safe s.ring;
-  standing = stands_happen config w h before s;
+  ring = follows_happens config.start w h before s.keeps_none s.silent (earlier_pages w s.safe) s.ring;
+  standing = stands_happen w h before s.keeps_none s.silent s.standing;
   safe = safe_happens w h s.safe;
+  keeps_none = (goes_as_without w h s.keeps_none s.silent).keeps_none;
+  silent = (goes_as_without w h s.keeps_none s.silent).silent;
   tells = tells_happens config w h before s few;
   fetched = fetched_happens config w h before s;
 }
@@ -281,6 +226,8 @@ stand_start config detail room = record {
   ring = record { follows = follows_begin config detail; told = refl; begins = refl };
   standing = refl;
   safe = safe_start config;
+  keeps_none = refl;
+  silent = refl;
   tells = new_tells config (lines.Begin config detail ∷ []) (back.start_of config)
       (record { obeys = obeys_more IsRule [] (lines.Begin config detail) (obeys_none IsRule) (begin_rule config detail); keeping = refl; told = refl })
       refl refl room refl (λ k. refl);

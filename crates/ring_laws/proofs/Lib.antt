@@ -11,6 +11,7 @@ pub mod Entry
 pub mod Serving
 pub mod Looking
 pub mod Back
+pub mod Alike
 pub mod Stages
 pub mod Free
 pub mod Anew
@@ -46,6 +47,11 @@ pub mod BackTells
 pub mod JobTells
 pub mod After
 pub mod Epochs
+pub mod Offered
+pub mod Handed
+pub mod HandedJob
+pub mod StandRuns
+pub mod HandedRuns
 pub mod JobRuns
 pub mod Makers
 pub mod Standings

@@ -29,12 +29,14 @@ use Rattle.split_model.proofs.SafeActs.{IsKeyMove}
 use Rattle.split_model.proofs.SafeAnswers.{IsBacks}
 use Rattle.ring_laws.proofs.Shows.{Sight}
 use Rattle.ring_laws.proofs.Knows.{KnowsAt}
+use Rattle.ring_laws.specs.Handed.{IsHandedAt}
 use Rattle.ring_laws.proofs.Makers.{IsQuiet, AreQuiet, IsOpen}
 
 -- a line that unmaps nothing, and is no map or touch of a job
 pub record IsCalm (line : Line) : Type 0 where
   pub quiet : IsQuiet line
   pub free : IsOpen line
+  pub handed : (before : List Line) → IsHandedAt before line
 
 abbrev pub AreCalm : List Line → Type 0
 AreCalm ls = AllByRecursion IsCalm ls
@@ -47,26 +49,30 @@ pub calm_open : (ls : List Line) → AreCalm ls → AllByRecursion IsOpen ls
 calm_open [] all = tt
 calm_open (line ∷ ls) all = (let c : IsCalm line = all.0 in c.free, calm_open ls all.1)
 
+pub calm_handed : (ls : List Line) → AreCalm ls → AllByRecursion (λ (line : Line). (before : List Line) → IsHandedAt before line) ls
+calm_handed [] all = tt
+calm_handed (line ∷ ls) all = (let c : IsCalm line = all.0 in c.handed, calm_handed ls all.1)
+
 -- no line that the back tells begins an epoch
 back_tells_calm : (line : Line) → IsTold line → MayShow BackMoves line → IsCalm line
 back_tells_calm (lines.Move shown) told shows = absurd told
 back_tells_calm lines.Epoch told shows = absurd shows
-back_tells_calm line told shows = record { quiet = record { same_epoch = refl; none_gone = λ n. refl; none_made = λ k. refl }; free = λ before. record { unmap = tt; touch = tt } }
+back_tells_calm line told shows = record { quiet = record { same_epoch = refl; none_gone = λ n. refl; none_made = λ k. refl }; free = λ before. record { unmap = tt; touch = tt }; handed = λ before. tt }
 
 pub back_calm : (t : Option BackTold) (a : BackAnswer) → AreCalm (back_lines t a)
 back_calm t a = back_told_is IsCalm back_tells_calm t a
 
 pub halt_calm : (old new : Option Halt) → AreCalm (halt_lines old new)
-halt_calm old new = halt_is IsCalm (λ why. record { quiet = record { same_epoch = refl; none_gone = λ n. refl; none_made = λ k. refl }; free = λ before. record { unmap = tt; touch = tt } }) old new
+halt_calm old new = halt_is IsCalm (λ why. record { quiet = record { same_epoch = refl; none_gone = λ n. refl; none_made = λ k. refl }; free = λ before. record { unmap = tt; touch = tt }; handed = λ before. tt }) old new
 
 pub told_calm : (t : Option BackTold) (a : BackAnswer) (old new : Option Halt) → AreCalm (back_lines t a ++ halt_lines old new)
 told_calm t a old new = both_all IsCalm (back_lines t a) (halt_lines old new) (back_calm t a) (halt_calm old new)
 
 pub key_calm : (who : Mover) (shown : Move) → IsKeyMove who shown → IsCalm (lines.Move shown)
-key_calm who (moves.Watch m path) is = record { quiet = record { same_epoch = refl; none_gone = λ n. refl; none_made = λ k. refl }; free = λ before. record { unmap = tt; touch = tt } }
-key_calm who (moves.Watched m path) is = record { quiet = record { same_epoch = refl; none_gone = λ n. refl; none_made = λ k. refl }; free = λ before. record { unmap = tt; touch = tt } }
-key_calm who (moves.GetKey m path text) is = record { quiet = record { same_epoch = refl; none_gone = λ n. refl; none_made = λ k. refl }; free = λ before. record { unmap = tt; touch = tt } }
-key_calm who (moves.SetKey m path text) is = record { quiet = record { same_epoch = refl; none_gone = λ n. refl; none_made = λ k. refl }; free = λ before. record { unmap = tt; touch = tt } }
+key_calm who (moves.Watch m path) is = record { quiet = record { same_epoch = refl; none_gone = λ n. refl; none_made = λ k. refl }; free = λ before. record { unmap = tt; touch = tt }; handed = λ before. tt }
+key_calm who (moves.Watched m path) is = record { quiet = record { same_epoch = refl; none_gone = λ n. refl; none_made = λ k. refl }; free = λ before. record { unmap = tt; touch = tt }; handed = λ before. tt }
+key_calm who (moves.GetKey m path text) is = record { quiet = record { same_epoch = refl; none_gone = λ n. refl; none_made = λ k. refl }; free = λ before. record { unmap = tt; touch = tt }; handed = λ before. tt }
+key_calm who (moves.SetKey m path text) is = record { quiet = record { same_epoch = refl; none_gone = λ n. refl; none_made = λ k. refl }; free = λ before. record { unmap = tt; touch = tt }; handed = λ before. tt }
 key_calm who shown is = absurd is
 
 abbrev pub is_unmap : BackAsk → Bool
@@ -83,7 +89,7 @@ does a' a c = record { quiet = λ none. c.quiet; allowed = c.free }
 
 acts_do : (h : Hypervisor) (a' : BackAsk) (o : Outcome) (a : BackAct) → BackActs h back.Back a' o a → Does a' a
 acts_do h a' o a (BackUnmap m) = record { quiet = λ none. absurd (cc); allowed = λ before. record { unmap = tt; touch = tt } }
-acts_do h a' o a acts = does _ _ (record { quiet = record { same_epoch = refl; none_gone = λ n. refl; none_made = λ k. refl }; free = λ before. record { unmap = tt; touch = tt } })
+acts_do h a' o a acts = does _ _ (record { quiet = record { same_epoch = refl; none_gone = λ n. refl; none_made = λ k. refl }; free = λ before. record { unmap = tt; touch = tt }; handed = λ before. tt })
 
 pub back_does : (h : Hypervisor) (a' : BackAsk) (o : Outcome) (a : BackAct) → IsBacks a' → back_act h back.Back a' o ≡ Some a → Does a' a
 back_does h a' o a own e = acts_do h a' o a (back_acts h back.Back a' o a e)

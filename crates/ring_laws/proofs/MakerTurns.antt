@@ -90,7 +90,7 @@ removed_all P [] (suc i) all = tt
 removed_all P (w ∷ works) zero all = all.1
 removed_all P (w ∷ works) (suc i) all = (all.0, removed_all P works i all.1)
 
-removed_place : (P : Work → Type 0) (works : List Work) (place : Option ℕ) → AllByRecursion P works → AllByRecursion P (removed_at works place)
+pub removed_place : (P : Work → Type 0) (works : List Work) (place : Option ℕ) → AllByRecursion P works → AllByRecursion P (removed_at works place)
 removed_place P works None all = all
 removed_place P works (Some i) all = removed_all P works i all
 

@@ -125,9 +125,13 @@ pub record IsMine (before : List Line) (line : Line) : Type 0 where
 abbrev pub IsOpen : Line → Type 0
 IsOpen line = (before : List Line) → IsMine before line
 
+-- lines that a rule allows anywhere
+pub obeys_all : (Rule : List Line → Line → Type 0) (before ys : List Line) → AllByRecursion (λ (line : Line). (ls : List Line) → Rule ls line) ys → Obeys Rule before → Obeys Rule (before ++ ys)
+obeys_all Rule before [] all obeys = subst (λ (ls : List Line). Obeys Rule ls) (sym (append-nil before)) obeys
+obeys_all Rule before (y ∷ ys) all obeys = subst (λ (ls : List Line). Obeys Rule ls) (append_assoc before (y ∷ []) ys) (obeys_all Rule (before ++ y ∷ []) ys all.1 (obeys_more Rule before y obeys (all.0 before)))
+
 pub open_more : (before ys : List Line) → AllByRecursion IsOpen ys → Obeys IsMine before → Obeys IsMine (before ++ ys)
-open_more before [] all obeys = subst (λ (ls : List Line). Obeys IsMine ls) (sym (append-nil before)) obeys
-open_more before (y ∷ ys) all obeys = subst (λ (ls : List Line). Obeys IsMine ls) (append_assoc before (y ∷ []) ys) (open_more (before ++ y ∷ []) ys all.1 (obeys_more IsMine before y obeys (all.0 before)))
+open_more before ys all obeys = obeys_all IsMine before ys all obeys
 
 -- what stands after an unmap is of another number
 none_left : (n : ℕ) (xs : List Standing) → numbered n (filter (λ (s : Standing). not (n == s.number)) xs ++ []) ≡ None

@@ -37,6 +37,7 @@ use Rattle.split_model.proofs.Showing.{IsTold, MayShow, lines_are, front_told_is
 use Rattle.split_model.proofs.Acting.{FrontFence, front_acts}
 use Rattle.split_model.proofs.SafeActs.{IsKeyMove}
 use Rattle.split_model.proofs.Keys.{key_cases, negotiated_cases}
+use Rattle.ring_laws.specs.Handed.{IsHandedAt}
 use Rattle.ring_laws.specs.Layout.{reads_protocol, IsNamedFirstAt}
 use Rattle.ring_laws.proofs.Sight.{is_other, other_touch, same_abi, foreign_abi, untouched_word, is_of_back}
 use Rattle.ring_laws.proofs.Shows.{Sight, Shows, unnamed_first}
@@ -65,8 +66,8 @@ abbrev pub AreOutsiders : BackStage → List Line → Type 0
 AreOutsiders s ls = AllByRecursion (IsOutsider s) ls
 
 -- a line that tells of no move
-said : (s : BackStage) (line : Line) → is_other line ≡ true → is_of_back line ≡ false → is_service line ≡ false → is_overrun line ≡ false → is_plain line ≡ true → stepper line ≡ None → is_reply line ≡ false → is_epoch line ≡ false → ((n : ℕ) → is_unmap_of n line ≡ false) → ((k : ℕ) → made_by k line ≡ None) → IsOpen line → IsOutsider s line
-said s line other foreign idle unhalting plain unstepped untold same gone made free = record {
+said : (s : BackStage) (line : Line) → is_other line ≡ true → is_of_back line ≡ false → is_service line ≡ false → is_overrun line ≡ false → is_plain line ≡ true → stepper line ≡ None → is_reply line ≡ false → is_epoch line ≡ false → ((n : ℕ) → is_unmap_of n line ≡ false) → ((k : ℕ) → made_by k line ≡ None) → IsOpen line → ((before : List Line) → IsHandedAt before line) → IsOutsider s line
+said s line other foreign idle unhalting plain unstepped untold same gone made free handed = record {
   other = other;
   unnamed = λ led. foreign_abi line foreign;
   foreign = λ none. foreign;
@@ -74,7 +75,7 @@ said s line other foreign idle unhalting plain unstepped untold same gone made f
   unhalting = unhalting;
   by = record { plain = plain; unstepped = unstepped };
   untold = untold;
-  calm = record { quiet = record { same_epoch = same; none_gone = gone; none_made = made }; free = free };
+  calm = record { quiet = record { same_epoch = same; none_gone = gone; none_made = made }; free = free; handed = handed };
 }
 
 -- what happens beside the back
@@ -106,7 +107,7 @@ outsider s h (lines.Trimmed id) is shows = absurd (assumption)
 outsider s h (lines.Fault id index) is shows = absurd (assumption)
 outsider s h (lines.Reply id status) is shows = absurd (assumption)
 outsider s h (lines.Halt why) is shows = absurd (assumption)
-outsider s h line is shows = said s line refl refl refl refl refl refl refl refl (λ n. refl) (λ k. refl) (λ before. record { unmap = tt; touch = tt })
+outsider s h line is shows = said s line refl refl refl refl refl refl refl refl (λ n. refl) (λ k. refl) (λ before. record { unmap = tt; touch = tt }) (λ before. tt)
 
 pub said_outsiders : (s : BackStage) (w : World) (h : Happening) → ((line : Line) → IsSaid h line) → AreOutsiders s (lines_at w h)
 said_outsiders s w h is = lines_are (IsOutsider s) w h (λ line shows. outsider s h line (is line) shows)
@@ -114,8 +115,8 @@ said_outsiders s w h is = lines_are (IsOutsider s) w h (λ line shows. outsider 
 -- nor is a move of the front, and it leaves the back as it is
 front_outsider : (s : BackStage) (h : Hypervisor) (ask : FrontAsk) (a : FrontAct) → front_act h ask ≡ Some a → IsOutsider s (lines.Move a.shown)
 front_outsider s h ask a e = elim (front_acts h ask a e) as (λ asked x acts. IsOutsider s (lines.Move x.shown)) [
-  | FrontFence ↦ said s _ refl refl refl refl refl refl refl refl (λ n. refl) (λ k. refl) (λ before. record { unmap = tt; touch = tt })
-  | acts ↦ said s _ refl refl refl refl refl refl refl refl (λ n. refl) (λ k. refl) (λ before. record { unmap = tt; touch = tt })
+  | FrontFence ↦ said s _ refl refl refl refl refl refl refl refl (λ n. refl) (λ k. refl) (λ before. record { unmap = tt; touch = tt }) (λ before. tt)
+  | acts ↦ said s _ refl refl refl refl refl refl refl refl (λ n. refl) (λ k. refl) (λ before. record { unmap = tt; touch = tt }) (λ before. tt)
 ]
 
 pub front_outsiders : (s : BackStage) (w : World) (act : Option FrontAct) → front_turn w ≡ act → AreOutsiders s (front_shows w act)

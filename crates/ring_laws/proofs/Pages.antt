@@ -9,9 +9,7 @@ use Rattle.grant_table.specs.declared.held.Held.{Held}
 use Rattle.grant_table.specs.Table.{GrantTable, IsLive, held_of}
 use Rattle.report_rules.specs.declared.standing.Standing.{Standing}
 use Rattle.report_rules.specs.Ring.{page_from}
-use Rattle.blk_back.specs.View.{View, no_page}
-use Rattle.blk_back.specs.Hands.{aborted, hands_of}
-use Rattle.back_jobs.specs.Hands.{hands_in}
+use Rattle.blk_back.specs.View.{no_page}
 use Rattle.split_model.specs.Safe.{AreHeld}
 use Rattle.ring_laws.proofs.Lists.{AreApart, all_second}
 
@@ -51,11 +49,11 @@ page_found k (suc place) (t ∷ told) (page ∷ pages) same apart within =
 abbrev pub AreEarlier : ℕ → List Mapping → Type 0
 AreEarlier made pages = AllByRecursion (λ (m : ℕ). m < made + 1) (map number_of pages)
 
--- those that the back holds were
-pub pages_earlier : (table : GrantTable) (v : View) → AreHeld table (hands_of v) → AreEarlier table.made v.pages
-pages_earlier table v held =
-    let each : AllByRecursion (IsLive table) (aborted v.stage ++ (hands_in v.jobs.works ++ v.pages)) = recursion_from_All (IsLive table) (hands_of v) held.live in
-    last v.pages (all_second (IsLive table) (hands_in v.jobs.works) v.pages (all_second (IsLive table) (aborted v.stage) (hands_in v.jobs.works ++ v.pages) each))
+-- those that are held, the last of them all that is held, were
+pub pages_earlier : (table : GrantTable) (first more pages : List Mapping) → AreHeld table (first ++ (more ++ pages)) → AreEarlier table.made pages
+pages_earlier table first more pages held =
+    let each : AllByRecursion (IsLive table) (first ++ (more ++ pages)) = recursion_from_All (IsLive table) (first ++ (more ++ pages)) held.live in
+    last pages (all_second (IsLive table) more pages (all_second (IsLive table) first (more ++ pages) each))
   where
     lives : All (λ (h : Held). h.mapping.number ≤ table.made) table.live
     lives = held.made_before
@@ -68,6 +66,6 @@ pages_earlier table v held =
         by_test true same rest = let e : h.mapping.number ≡ m.number = ap number_of same in let le = low.0 in omega arith
         by_test false other rest = rest other
 
-    last : (pages : List Mapping) → AllByRecursion (IsLive table) pages → AreEarlier table.made pages
+    last : (ps : List Mapping) → AllByRecursion (IsLive table) ps → AreEarlier table.made ps
     last [] all = tt
-    last (page ∷ pages) all = (found_low page.number table.live (recursion_from_All (λ (h : Held). h.mapping.number ≤ table.made) table.live lives) page all.0, last pages all.1)
+    last (p ∷ ps) all = (found_low p.number table.live (recursion_from_All (λ (h : Held). h.mapping.number ≤ table.made) table.live lives) p all.0, last ps all.1)

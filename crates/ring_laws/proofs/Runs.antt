@@ -1,6 +1,6 @@
--- Whatever happens from the start, the lines keep the rules of the ring.
-use Rattle.std.proofs.Common.{◌≡◌, ℕ, ◌<◌, ◌^◌, Bool, true, false, if◌then◌else◌, length, List, [], ◌∷◌, ◌++◌, refl, ap, sym, subst, append_assoc, ◌∙◌, arith}
-use Rattle.std.specs.Prelude.{Option, Some, None, is_some, codes}
+-- Whatever happens from the start, the lines keep the rules of the ring, also where the back keeps mappings.
+use Rattle.std.proofs.Common.{◌≡◌, ℕ, ◌<◌, ◌^◌, ◌&&◌, Bool, true, false, if◌then◌else◌, length, List, [], ◌∷◌, ◌++◌, refl, ap, sym, subst, append_assoc, ◌∙◌, arith}
+use Rattle.std.specs.Prelude.{Option, Some, None, is_some, not, ◌==◌, map, codes}
 use Rattle.std.proofs.lemmas.List.{append-nil}
 use Rattle.std.proofs.lemmas.Nat.{pow_pos}
 use Rattle.std.proofs.lemmas.Slice.Eq.{bytes_eq-Decides}
@@ -9,6 +9,8 @@ use Rattle.blk_base.specs.Options.{Options}
 use Rattle.blk_base.specs.declared.operation.Abi.{Abi}
 use Rattle.blk_base.specs.declared.operation.Abi.TheVariants.{X64, X32}
 use Rattle.blk_base.specs.declared.parts.Mapping.{Mapping}
+use Rattle.blk_base.specs.declared.parts.End.{End}
+use Rattle.blk_base.specs.declared.parts.End.TheVariants as end
 use Rattle.blk_base.specs.declared.moves.Mover.TheVariants as mover
 use Rattle.blk_base.specs.declared.moves.Move.TheVariants as moves
 use Rattle.ring_words.specs.Shape.{Shape, entries_of}
@@ -21,36 +23,46 @@ use Rattle.schedule_text.specs.declared.line.Detail.{Detail}
 use Rattle.hypervisor.specs.Act.{FrontAct, BackAct, Outcome, Took}
 use Rattle.report_rules.specs.Overrun.{IsOverrunRule}
 use Rattle.report_rules.specs.Stretch.{AreStretches}
-use Rattle.back_jobs.specs.Jobs.{ask_job, complete_job}
+use Rattle.back_jobs.specs.Jobs.{HeldJobs}
+use Rattle.back_jobs.specs.Hands.{hands_in}
+use Rattle.back_jobs.specs.Keeping.{all_hands, ask_keeping, complete_keeping}
 use Rattle.blk_base.specs.declared.halt.Halt.{Halt}
 use Rattle.blk_back.specs.declared.stage.BackStage.{BackStage}
 use Rattle.blk_back.specs.declared.stage.BackStage.TheVariants as stage
-use Rattle.blk_back.specs.Step.{may_attach, attached}
+use Rattle.blk_back.specs.Ask.{is_led}
+use Rattle.blk_back.specs.Hands.{aborted}
+use Rattle.blk_back.specs.Step.{may_attach, attached, halts}
+use Rattle.blk_back.specs.Keeping.{may_keep_most, step_keeping, job_ask_keeping, halts_keeping, KeepsNone}
 use Rattle.blk_back.specs.View as back
 use Rattle.blk_back.specs.Step as back_step
+use Rattle.back_laws.proofs.Calls.{keeps_mapping}
 use Rattle.split_model.specs.World.{World, start_of, suspended}
-use Rattle.split_model.specs.Happening.{Happening, FrontMoves, BackMoves, JobMoves, FrontEnters, BackAttaches, BackHalts, Submits, Suspends, layout_text, layout_read, happens, lines_at, after, lines_of, front_after, front_shows, back_after, back_shows, job_after, job_shows, front_turn, back_turn, job_turn}
-use Rattle.split_model.proofs.SafeAnswers.{jobs_of}
-use Rattle.split_model.specs.Keys.{is_layout, layout_path}
+use Rattle.split_model.specs.Happening.{Happening, FrontMoves, BackMoves, JobMoves, Negotiates, FrontEnters, BackAttaches, BackHalts, Submits, Suspends, layout_text, layout_read, happens, lines_at, front_after, front_shows, front_turn, back_turn}
+use Rattle.split_model.specs.Kept.{KeepingHappening, Plainly, BackOffers, BackKeeps, keeping_path, keeping_text, back_offers, offered, offer_line, reads_keeping, kept_so, keeping_line, is_other_read, back_after_keeping, back_shows_keeping, job_turn_keeping, job_after_keeping, job_shows_keeping, halted_keeping, halt_shows_keeping, plainly_after, plainly_shows, happens_keeping, shows_keeping, after_keeping, lines_keeping, IsSafeKeeping}
+use Rattle.split_model.proofs.SafeAnswers.{jobs_keeping}
+use Rattle.split_model.specs.Keys.{KeyMove, is_between, is_layout, layout_path}
 use Rattle.split_model.specs.Shown.{halt_lines}
 use Rattle.split_model.specs.Report.{report_of, ended_report_of}
 use Rattle.split_model.specs.Safe.{IsSafe}
-use Rattle.split_model.proofs.Safe.{safe_start, safe_happens}
+use Rattle.split_model.proofs.Kept.{kept_start, kept_happens}
+use Rattle.split_model.proofs.Without.{goes_as_without, run_as}
 use Rattle.split_model.proofs.SafeFront.{start_front, entered_kept, submit_kept}
 use Rattle.split_model.proofs.Suspending.{suspend_cases, front_kept, back_cases, suspended_told}
 use Rattle.split_model.proofs.Attaching.{SaysServed, attach_cases}
 use Rattle.split_model.proofs.Shapes.{attaches_waiting, attaches_order, attaches_grefs}
+use Rattle.move_laws.specs.Kept.{report_keeping, ended_report_keeping}
 use Rattle.ring_laws.specs.Layout.{IsNamedFirst}
 use Rattle.ring_laws.proofs.ObeysRing.{ObeysRing, IsWhole, ring_none, ring_more, ring_epoch, foreign_stretch, own_stretch}
 use Rattle.ring_laws.proofs.Anew.{new_sight, shows_epoch, new_follows, gone_follows}
 use Rattle.ring_laws.proofs.Pages.{AreEarlier, pages_earlier}
 use Rattle.ring_laws.proofs.Shows.{Sight, Shows}
-use Rattle.ring_laws.proofs.Knows.{AreMapped, Waits, Untold, Maps, KnowsAt, Follows, knows_still, unhalted}
+use Rattle.ring_laws.proofs.Knows.{AreMapped, Waits, Untold, Maps, KnowsAt, Follows, knows_still, unhalted, whole_words}
+use Rattle.ring_laws.proofs.Alike.{IsAlike, step_alike, halts_alike, follows_alike, goes_alike}
 use Rattle.ring_laws.proofs.Back.{halt_follows}
 use Rattle.ring_laws.proofs.Halting.{Stops, stops_cases}
 use Rattle.ring_laws.proofs.Stages.{back_goes}
-use Rattle.ring_laws.proofs.Outsiders.{IsBeside, outsiders_follow, front_outsiders, beside_outsiders}
-use Rattle.ring_laws.proofs.Free.{follow_named, follow_free, follow_all, job_free, job_running, free_told, free_end}
+use Rattle.ring_laws.proofs.Outsiders.{IsBeside, AreOutsiders, get_key, outsiders_follow, front_outsiders, beside_outsiders}
+use Rattle.ring_laws.proofs.Free.{follow_named, follow_other, follow_free, follow_all, job_free, job_running, free_told, free_end}
 use Rattle.ring_laws.proofs.EntryWords.{entry_values, none_whole, counted_more, counted_none}
 
 -- the lines so far keep the rules, the back has nothing left to tell, and the front's rings begin at that index
@@ -78,25 +90,37 @@ whole : (start n : ℕ) (values : List ℕ) {ls : List Line} {v : back.View} →
 whole start n values same g = record { sight = g.sight; begun = g.begun ∙ same; more = g.sight.values; grown = refl; shows = g.shows; knows = g.knows; stands = g.stands }
 
 -- the pages that the back has mapped were made before
-pub earlier_pages : (w : World) → IsSafe w → (let h : Hypervisor = w.under in AreEarlier h.grants.made w.back.pages)
-earlier_pages w safe = pages_earlier w.under.grants w.back safe.held
+abbrev pub HasEarlier : World → Type 0
+HasEarlier w = let h : Hypervisor = w.under in AreEarlier h.grants.made w.back.pages
 
-back_follows : (start : ℕ) (w : World) (before : List Line) (o : Outcome) (act : Option BackAct) → IsSafe w → FollowsTo start before w → back_turn w o ≡ act → FollowsTo start (before ++ back_shows w act) (back_after w act)
-back_follows start w before o None safe f e = no_lines start before w f
-back_follows start w before o (Some a) safe f e =
-    let gone = back_goes before w.under w.back.stage w.back o a f.follows.sight (earlier_pages w safe) f.follows.knows f.follows.knows f.follows.shows f.follows.stands f.told e in
-    record { follows = retold start _ (back_step.step_of w.back a.answer) (whole start f.follows.sight.start f.follows.sight.values f.follows.begun gone); told = refl; begins = f.begins }
+pub earlier_pages : (w : World) → IsSafe w → HasEarlier w
+earlier_pages w safe = pages_earlier w.under.grants (aborted w.back.stage) (hands_in w.back.jobs.works) w.back.pages safe.held
 
-job_follows : (start : ℕ) (w : World) (before : List Line) (k : ℕ) (o : Outcome) (act : Option BackAct) → FollowsTo start before w → job_turn w k o ≡ act → FollowsTo start (before ++ job_shows w k act) (job_after w k act)
+pub earlier_kept : (w : World) → IsSafeKeeping w → HasEarlier w
+earlier_kept w safe = pages_earlier w.under.grants (aborted w.back.stage) (all_hands w.back.jobs) w.back.pages safe.held
+
+back_follows : (start : ℕ) (w : World) (before : List Line) (o : Outcome) (act : Option BackAct) → HasEarlier w → FollowsTo start before w → back_turn w o ≡ act → FollowsTo start (before ++ back_shows_keeping w act) (back_after_keeping w act)
+back_follows start w before o None earlier f e = no_lines start before w f
+back_follows start w before o (Some a) earlier f e =
+    let x : Sight = f.follows.sight in
+    let gone = back_goes before w.under w.back.stage w.back o a f.follows.sight earlier f.follows.knows f.follows.knows f.follows.shows f.follows.stands f.told e in
+    let kept = goes_alike x.start x.values before w.back (back_step.step_of w.back a.answer) (step_keeping w.back a.answer) a.answer a.shown (step_alike w.back.stage w.back a.answer) gone in
+    record { follows = retold start _ (step_keeping w.back a.answer) (whole start x.start x.values f.follows.begun kept); told = refl; begins = f.begins }
+
+-- other jobs are nothing to it
+with_jobs : (start : ℕ) (before : List Line) (v : back.View) (jobs : HeldJobs) → Follows start [] before v → Follows start [] before (record v { jobs = jobs; told = None })
+with_jobs start before v jobs f = record { sight = f.sight; begun = f.begun; more = f.more; grown = f.grown; shows = f.shows; knows = knows_still v.stage f.sight v v.ring.asleep jobs None f.knows; stands = f.stands }
+
+job_follows : (start : ℕ) (w : World) (before : List Line) (k : ℕ) (o : Outcome) (act : Option BackAct) → FollowsTo start before w → job_turn_keeping w k o ≡ act → FollowsTo start (before ++ job_shows_keeping w k act) (job_after_keeping w k act)
 job_follows start w before k o None f e = no_lines start before w f
 job_follows start w before k o (Some a) f e =
-    let running : is_some w.back.halted ≡ false = job_running (is_some w.back.halted) w.under k (ask_job w.back.jobs k) o a e in
-    let all : Follows start [] (before ++ job_shows w k (Some a)) w.back = follow_all start [] _ before w.back (job_free (is_some w.back.halted) w.under k (back_step.job_ask_of w.back k) o a running (jobs_of w.back k) e, free_told (is_some w.back.halted) _ a.answer running) f.follows in
-    record { follows = record { sight = all.sight; begun = all.begun; more = all.more; grown = all.grown; shows = all.shows; knows = knows_still w.back.stage all.sight w.back w.back.ring.asleep (complete_job w.back.jobs k a.answer) None all.knows; stands = all.stands }; told = refl; begins = f.begins }
+    let running : is_some w.back.halted ≡ false = job_running (is_some w.back.halted) w.under k (ask_keeping w.back.jobs k) o a e in
+    let all : Follows start [] (before ++ job_shows_keeping w k (Some a)) w.back = follow_all start [] _ before w.back (job_free (is_some w.back.halted) w.under k (job_ask_keeping w.back k) o a running (jobs_keeping w.back k) e, free_told (is_some w.back.halted) _ a.answer running) f.follows in
+    record { follows = with_jobs start (before ++ job_shows_keeping w k (Some a)) w.back (complete_keeping w.back.jobs k a.answer) all; told = refl; begins = f.begins }
 
 -- the lines of a back whose negotiation has it halt
-halted_follows : (start : ℕ) (w : World) (before : List Line) (why : Halt) → FollowsTo start before w → FollowsTo start (before ++ lines_at w (BackHalts why)) (happens w (BackHalts why))
-halted_follows start w before why f =
+halted_plainly : (start : ℕ) (w : World) (before : List Line) (why : Halt) → FollowsTo start before w → FollowsTo start (before ++ lines_at w (BackHalts why)) (happens w (BackHalts why))
+halted_plainly start w before why f =
     stops_cases (λ (new : back.View). FollowsTo start (before ++ halt_lines w.back.halted new.halted) (record { front = w.front; back = new; under = w.under })) why w.back f.follows.sight f.follows.knows stops none
   where
     stops : (new : back.View) → Stops f.follows.sight why w.back new → FollowsTo start (before ++ halt_lines w.back.halted new.halted) (record { front = w.front; back = new; under = w.under })
@@ -108,6 +132,17 @@ halted_follows start w before why f =
 
     none : FollowsTo start (before ++ halt_lines w.back.halted w.back.halted) (record { front = w.front; back = w.back; under = w.under })
     none = record { follows = subst (λ (ls : List Line). Follows start [] ls w.back) (sym (ap (λ (ls : List Line). before ++ ls) (unhalted w.back.halted) ∙ append-nil before)) f.follows; told = f.told; begins = f.begins }
+
+halted_follows : (start : ℕ) (w : World) (before : List Line) (why : Halt) → FollowsTo start before w → FollowsTo start (before ++ halt_shows_keeping w why) (halted_keeping w why)
+halted_follows start w before why f =
+    let plain : FollowsTo start (before ++ lines_at w (BackHalts why)) (happens w (BackHalts why)) = halted_plainly start w before why f in
+    let alike : IsAlike (halts why w.back) (halts_keeping why w.back) = halts_alike why w.back in
+    let kept : Follows start [] (before ++ lines_at w (BackHalts why)) (halts_keeping why w.back) = follows_alike start [] (before ++ lines_at w (BackHalts why)) (halts why w.back) (halts_keeping why w.back) alike plain.follows in
+    record {
+      follows = subst (λ (h : Option Halt). Follows start [] (before ++ halt_lines w.back.halted h) (halts_keeping why w.back)) (sym alike.halted) kept;
+      told = alike.told ∙ plain.told;
+      begins = plain.begins;
+    }
 
 -- the layout that the key names is the one that the back takes
 abi_told : (last : Option Abi) (abi : Abi) (text : Option (List ℕ)) → is_layout abi text ≡ true → abi_after last (lines.Move (moves.GetKey mover.Back layout_path text)) ≡ Some abi
@@ -193,23 +228,73 @@ suspend_follows start w before f = suspend_cases (λ (v : World) (shown : List L
 beside_follows : (start : ℕ) (w : World) (h : Happening) (before : List Line) → IsBeside h → FollowsTo start before w → Follows start [] (before ++ lines_at w h) w.back
 beside_follows start w h before is f = outsiders_follow start [] (lines_at w h) before w.back (beside_outsiders w h is) f.follows
 
-pub follows_happens : (start : ℕ) (w : World) (h : Happening) (before : List Line) → IsSafe w → FollowsTo start before w → FollowsTo start (before ++ lines_at w h) (happens w h)
-follows_happens start w FrontMoves before safe f = front_follows start w before (front_turn w) f refl
-follows_happens start w BackMoves before safe f = back_follows start w before Took (back_turn w Took) safe f refl
-follows_happens start w (JobMoves number outcome) before safe f = job_follows start w before number outcome (job_turn w number outcome) f refl
-follows_happens start w (FrontEnters state) before safe f =
-    record { follows = beside_follows start w (FrontEnters state) before tt f; told = f.told; begins = (entered_kept state w.front).start ∙ f.begins }
-follows_happens start w (BackAttaches shape grefs port) before safe f = attached_follows start w before shape grefs port f
-follows_happens start w (BackHalts why) before safe f = halted_follows start w before why f
-follows_happens start w (Submits job) before safe f = record { follows = beside_follows start w (Submits job) before tt f; told = f.told; begins = (submit_kept w.front job).start ∙ f.begins }
-follows_happens start w Suspends before safe f = suspend_follows start w before f
-follows_happens start w h before safe f = record { follows = beside_follows start w h before tt f; told = f.told; begins = f.begins }
+-- the back publishes that it keeps grants, while it waits for the terms of its front
+offers_follow : (start : ℕ) (w : World) (before : List Line) (led : Bool) → is_led w.back.stage ≡ led → FollowsTo start before w → FollowsTo start (before ++ (if led then offer_line ∷ [] else [])) (if led then offered w else w)
+offers_follow start w before false is f = no_lines start before w f
+offers_follow start w before true is f =
+    let x : Sight = f.follows.sight in
+    let whole : IsWhole x = whole_words w.back.stage x w.back (led_between w.back.stage is) f.follows.knows in
+    record { follows = follow_other start [] before offer_line w.back refl refl (λ over. refl) refl (own_stretch before offer_line x f.follows.shows whole refl tt) f.follows; told = f.told; begins = f.begins }
+  where
+    led_between : (s : BackStage) → is_led s ≡ true → is_between s ≡ true
+    led_between stage.InitWait led = refl
+    led_between s led = absurd (cc)
 
-follows_after : (start : ℕ) (hs : List Happening) (w : World) (before : List Line) → IsSafe w → FollowsTo start before w → FollowsTo start (before ++ lines_of hs w) (after hs w)
+-- and reads whether its front does, before it maps a page of the ring
+pub reads_may : (w : World) (cap : ℕ) → reads_keeping w cap ≡ true → may_keep_most cap w.back ≡ true
+reads_may w cap reads = middle_of (back_offers w) (may_keep_most cap w.back) (not (cap == 0)) reads
+  where
+    middle_of : (a b c : Bool) → (a && b && c) ≡ true → b ≡ true
+    middle_of true true c e = refl
+    middle_of true false c e = absurd (cc)
+    middle_of false b c e = absurd (cc)
+
+keeps_follow : (start : ℕ) (w : World) (before : List Line) (cap : ℕ) (reads : Bool) → reads_keeping w cap ≡ reads → FollowsTo start before w → FollowsTo start (before ++ (if reads then keeping_line w ∷ [] else [])) (if reads then kept_so w cap else w)
+keeps_follow start w before cap false is f = no_lines start before w f
+keeps_follow start w before cap true is f =
+    let v : back.View = w.back in
+    let between : is_between v.stage ≡ true = ap is_between (keeps_mapping cap v (reads_may w cap is)) in
+    let all : AreOutsiders v.stage (keeping_line w ∷ []) = (get_key v.stage end.Back keeping_path (keeping_text w) (λ own. absurd (cc)) (λ led. refl), tt) in
+    let told : Follows start [] (before ++ keeping_line w ∷ []) v = outsiders_follow start [] (keeping_line w ∷ []) before v all f.follows in
+    let jobs : HeldJobs = (let n : World = kept_so w cap in n.back.jobs) in
+    record { follows = record { sight = told.sight; begun = told.begun; more = told.more; grown = told.grown; shows = told.shows; knows = knows_still v.stage told.sight v v.ring.asleep jobs v.told told.knows; stands = told.stands }; told = f.told; begins = f.begins }
+
+-- an end turns to its keys
+keys_follow : (start : ℕ) (w : World) (before : List Line) (at : End) (move : KeyMove) (other : Bool) → FollowsTo start before w
+    → FollowsTo start (before ++ (if other then [] else lines_at w (Negotiates at move))) (happens w (Negotiates at move))
+keys_follow start w before at move true f = record { follows = (no_lines start before w f).follows; told = f.told; begins = f.begins }
+keys_follow start w before at move false f = record { follows = beside_follows start w (Negotiates at move) before tt f; told = f.told; begins = f.begins }
+
+plainly_follows : (start : ℕ) (w : World) (h : Happening) (before : List Line) → HasEarlier w → FollowsTo start before w → FollowsTo start (before ++ plainly_shows w h) (plainly_after w h)
+plainly_follows start w FrontMoves before earlier f = front_follows start w before (front_turn w) f refl
+plainly_follows start w BackMoves before earlier f = back_follows start w before Took (back_turn w Took) earlier f refl
+plainly_follows start w (JobMoves number outcome) before earlier f = job_follows start w before number outcome (job_turn_keeping w number outcome) f refl
+plainly_follows start w (Negotiates at move) before earlier f = keys_follow start w before at move (is_other_read w at move) f
+plainly_follows start w (FrontEnters state) before earlier f =
+    record { follows = beside_follows start w (FrontEnters state) before tt f; told = f.told; begins = (entered_kept state w.front).start ∙ f.begins }
+plainly_follows start w (BackAttaches shape grefs port) before earlier f = attached_follows start w before shape grefs port f
+plainly_follows start w (BackHalts why) before earlier f = halted_follows start w before why f
+plainly_follows start w (Submits job) before earlier f = record { follows = beside_follows start w (Submits job) before tt f; told = f.told; begins = (submit_kept w.front job).start ∙ f.begins }
+plainly_follows start w Suspends before earlier f = suspend_follows start w before f
+plainly_follows start w h before earlier f = record { follows = beside_follows start w h before tt f; told = f.told; begins = f.begins }
+
+pub follows_keeping : (start : ℕ) (w : World) (h : KeepingHappening) (before : List Line) → HasEarlier w → FollowsTo start before w → FollowsTo start (before ++ shows_keeping w h) (happens_keeping w h)
+follows_keeping start w (Plainly h) before earlier f = plainly_follows start w h before earlier f
+follows_keeping start w BackOffers before earlier f = offers_follow start w before (is_led w.back.stage) refl f
+follows_keeping start w (BackKeeps cap) before earlier f = keeps_follow start w before cap (reads_keeping w cap) refl f
+
+-- where nothing is kept it is so of what happens to a machine that never keeps any
+pub follows_happens : (start : ℕ) (w : World) (h : Happening) (before : List Line) → KeepsNone w.back → back_offers w ≡ false → HasEarlier w → FollowsTo start before w → FollowsTo start (before ++ lines_at w h) (happens w h)
+follows_happens start w h before none silent earlier f =
+    let goes = goes_as_without w h none silent in
+    subst (λ (ls : List Line). FollowsTo start (before ++ ls) (happens w h)) goes.lines
+    (subst (λ (v : World). FollowsTo start (before ++ plainly_shows w h) v) goes.world (plainly_follows start w h before earlier f))
+
+follows_after : (start : ℕ) (hs : List KeepingHappening) (w : World) (before : List Line) → IsSafeKeeping w → FollowsTo start before w → FollowsTo start (before ++ lines_keeping hs w) (after_keeping hs w)
 follows_after start [] w before safe f = no_lines start before w f
 follows_after start (h ∷ hs) w before safe f =
-    subst (λ (ls : List Line). FollowsTo start ls (after hs (happens w h))) (append_assoc before (lines_at w h) (lines_of hs (happens w h)))
-    (follows_after start hs (happens w h) (before ++ lines_at w h) (safe_happens w h safe) (follows_happens start w h before safe f))
+    subst (λ (ls : List Line). FollowsTo start ls (after_keeping hs (happens_keeping w h))) (append_assoc before (shows_keeping w h) (lines_keeping hs (happens_keeping w h)))
+    (follows_after start hs (happens_keeping w h) (before ++ shows_keeping w h) (kept_happens w h safe) (follows_keeping start w h before (earlier_kept w safe) f))
 
 -- the first line
 pub follows_begin : (config : Options) (detail : Detail) → Follows config.start [] (lines.Begin config detail ∷ []) (back.start_of config)
@@ -218,31 +303,44 @@ follows_begin config detail =
     (record { pages = refl; replied = refl; produced = refl; words = refl; start = refl; values = refl; abi = refl; fresh = λ none. refl; counted = counted_more [] (lines.Begin config detail) refl (λ read. absurd (cc)) counted_none })
     (ring_more [] (lines.Begin config detail) config.start false (ring_none config.start) refl refl (λ over. refl) refl (λ read. absurd (cc)) (λ small. foreign_stretch [] (lines.Begin config detail) refl refl))
 
-report_follows : (config : Options) (detail : Detail) (history : List Happening) → FollowsTo config.start (report_of config detail history) (after history (start_of config))
-report_follows config detail history = follows_after config.start history (start_of config) (lines.Begin config detail ∷ []) (safe_start config) (record { follows = follows_begin config detail; told = refl; begins = refl })
+report_follows : (config : Options) (detail : Detail) (history : List KeepingHappening) → FollowsTo config.start (report_keeping config detail history) (after_keeping history (start_of config))
+report_follows config detail history = follows_after config.start history (start_of config) (lines.Begin config detail ∷ []) (kept_start config) (record { follows = follows_begin config detail; told = refl; begins = refl })
 
-ended_follows : (config : Options) (detail : Detail) (history : List Happening) → Follows config.start [] (ended_report_of config detail history) (let w : World = after history (start_of config) in w.back)
+ended_follows : (config : Options) (detail : Detail) (history : List KeepingHappening) → Follows config.start [] (ended_report_keeping config detail history) (let w : World = after_keeping history (start_of config) in w.back)
 ended_follows config detail history =
-    let w : World = after history (start_of config) in
-    follow_free config.start [] (report_of config detail history) lines.End w.back (free_end (is_some w.back.halted)) (report_follows config detail history).follows
+    let w : World = after_keeping history (start_of config) in
+    follow_free config.start [] (report_keeping config detail history) lines.End w.back (free_end (is_some w.back.halted)) (report_follows config detail history).follows
 
-stretches_of : (start : ℕ) (before : List Line) (v : back.View) → start < 2 ^ 32 → Follows start [] before v → AreStretches before
-stretches_of start before v small f = f.stands.stretches (subst (λ (n : ℕ). n < 2 ^ 32) (sym f.begun) small)
+-- the rules that don't speak of jobs
+pub record RingRules (start : ℕ) (report : List Line) : Type 0 where
+  pub overruns : IsOverrunRule report
+  pub stretches : start < 2 ^ 32 → AreStretches report
+  pub named : IsNamedFirst report
 
-pub report_overruns : (config : Options) (detail : Detail) (history : List Happening) → IsOverrunRule (report_of config detail history)
-report_overruns config detail history = (report_follows config detail history).follows.stands.overruns
+rules_of : (start : ℕ) (before : List Line) (v : back.View) → Follows start [] before v → RingRules start before
+rules_of start before v f = record { overruns = f.stands.overruns; stretches = λ small. f.stands.stretches (subst (λ (n : ℕ). n < 2 ^ 32) (sym f.begun) small); named = f.stands.named }
+
+pub report_keeps : (config : Options) (detail : Detail) (history : List KeepingHappening) → RingRules config.start (report_keeping config detail history)
+report_keeps config detail history = rules_of config.start _ _ (report_follows config detail history).follows
+
+pub ended_keeps : (config : Options) (detail : Detail) (history : List KeepingHappening) → RingRules config.start (ended_report_keeping config detail history)
+ended_keeps config detail history = rules_of config.start _ _ (ended_follows config detail history)
+
+-- a machine that never keeps any is one of these
+plain_report : (config : Options) (detail : Detail) (history : List Happening) → report_keeping config detail (map Plainly history) ≡ report_of config detail history
+plain_report config detail history = ap (λ (ls : List Line). lines.Begin config detail ∷ ls) (run_as history (start_of config) refl refl).lines
+
+pub report_rings : (config : Options) (detail : Detail) (history : List Happening) → RingRules config.start (report_of config detail history)
+report_rings config detail history = subst (RingRules config.start) (plain_report config detail history) (report_keeps config detail (map Plainly history))
+
+pub ended_rings : (config : Options) (detail : Detail) (history : List Happening) → RingRules config.start (ended_report_of config detail history)
+ended_rings config detail history = subst (λ (ls : List Line). RingRules config.start (ls ++ lines.End ∷ [])) (plain_report config detail history) (ended_keeps config detail (map Plainly history))
 
 pub ended_overruns : (config : Options) (detail : Detail) (history : List Happening) → IsOverrunRule (ended_report_of config detail history)
-ended_overruns config detail history = (ended_follows config detail history).stands.overruns
-
-pub report_stretches : (config : Options) (detail : Detail) (history : List Happening) → config.start < 2 ^ 32 → AreStretches (report_of config detail history)
-report_stretches config detail history small = stretches_of config.start _ _ small (report_follows config detail history).follows
+ended_overruns config detail history = (ended_rings config detail history).overruns
 
 pub ended_stretches : (config : Options) (detail : Detail) (history : List Happening) → config.start < 2 ^ 32 → AreStretches (ended_report_of config detail history)
-ended_stretches config detail history small = stretches_of config.start _ _ small (ended_follows config detail history)
-
-pub report_named : (config : Options) (detail : Detail) (history : List Happening) → IsNamedFirst (report_of config detail history)
-report_named config detail history = (report_follows config detail history).follows.stands.named
+ended_stretches config detail history = (ended_rings config detail history).stretches
 
 pub ended_named : (config : Options) (detail : Detail) (history : List Happening) → IsNamedFirst (ended_report_of config detail history)
-ended_named config detail history = (ended_follows config detail history).stands.named
+ended_named config detail history = (ended_rings config detail history).named

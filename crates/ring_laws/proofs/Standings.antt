@@ -90,16 +90,21 @@ turn_stands before ys h who asked o a quiet other s e =
     subst (λ (ls : List Line). Stands ls a.under.grants) (append_assoc before (lines.Move a.shown ∷ []) ys)
     (stands_aside (before ++ lines.Move a.shown ∷ []) ys a.under.grants quiet other (act_stands before h who asked o a s e))
 
--- the mapping in a job's hand stands, of its reference
+-- a mapping that lives stands, of its reference
+pub live_stands : (before : List Line) (table : GrantTable) (m : Mapping) → Stands before table → IsLive table m → IsSomeAnd (numbered m.number (standing_after before)) (λ (x : Standing). x.gref ≡ m.gref)
+live_stands before table m stands live =
+    subst (λ (o : Option Standing). IsSomeAnd o (λ (x : Standing). x.gref ≡ m.gref)) (sym (ap (λ (s : List Standing). numbered m.number s) stands ∙ numbered_live m.number table.live))
+    (named (held_of m.number table.live) live)
+  where
+    named : (o : Option Held) → IsSomeAnd o (λ (x : Held). x.mapping ≡ m) → IsSomeAnd (option_map standing_of o) (λ (x : Standing). x.gref ≡ m.gref)
+    named None same = same
+    named (Some h) same = ap (λ (x : Mapping). x.gref) same
+
+-- so does the mapping in a job's hand
 pub in_hand : (before : List Line) (table : GrantTable) (v : View) (place : ℕ) (t : Work) (m : Mapping) → Stands before table → AreHeld table (hands_of v) → slice_get v.jobs.works place ≡ Some t → mapping_at t.stage ≡ Some m
     → IsSomeAnd (numbered m.number (standing_after before)) (λ (x : Standing). x.gref ≡ m.gref)
 in_hand before table v place t m stands held found_at is =
     let hand : Contains (hand_of t) m = subst (λ (o : Option Mapping). Contains (option_to_list o) m) (sym is) (only m) in
     let inside : Contains (hands_in v.jobs.works) m = named_in v.jobs.works place t (ask.Unmap m) found_at hand in
     let whole : Contains (hands_of v) m = among m (aborted v.stage) v.pages (hands_in v.jobs.works) inside in
-    subst (λ (o : Option Standing). IsSomeAnd o (λ (x : Standing). x.gref ≡ m.gref)) (sym (ap (λ (s : List Standing). numbered m.number s) stands ∙ numbered_live m.number table.live))
-    (named (held_of m.number table.live) (All-contains (IsLive table) (hands_of v) m held.live whole))
-  where
-    named : (o : Option Held) → IsSomeAnd o (λ (x : Held). x.mapping ≡ m) → IsSomeAnd (option_map standing_of o) (λ (x : Standing). x.gref ≡ m.gref)
-    named None same = same
-    named (Some h) same = ap (λ (x : Mapping). x.gref) same
+    live_stands before table m stands (All-contains (IsLive table) (hands_of v) m held.live whole)

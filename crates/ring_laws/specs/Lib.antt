@@ -1,3 +1,4 @@
 pub mod Unmaps
 pub mod Own
 pub mod Layout
+pub mod Handed

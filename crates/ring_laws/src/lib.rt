@@ -6,6 +6,8 @@
 //! indirect pages.
 #![tactic(auto)]
 
+mod keeping;
+
 ghost use Rattle.std.specs.Prelude.{◌<◌, ◌≤◌, ◌^◌, List, length};
 ghost use Rattle.blk_base.specs.Options.{Options};
 ghost use Rattle.schedule_text.specs.declared.line.Detail.{Detail};
@@ -20,6 +22,13 @@ ghost use Rattle.ring_laws.specs.Own.{AreOwn};
 ghost use Rattle.ring_laws.specs.Layout.{IsNamedFirst};
 ghost use Rattle.split_model.specs.Happening.{Happening};
 ghost use Rattle.split_model.specs.Report.{report_of, ended_report_of};
+
+pub use keeping::{
+    the_entries_are_fetched_in_stretches_where_mappings_are_kept,
+    the_jobs_touch_and_unmap_what_they_made_or_what_is_kept,
+    the_layout_is_named_before_the_ring_is_mapped_where_mappings_are_kept,
+    the_overruns_halt_the_back_where_mappings_are_kept,
+};
 
 /// A back that reads a producer further ahead of its own than the ring has entries halts, in the
 /// very next line; it halts for an overrun nowhere else, and from there on nothing is served.
