@@ -3,6 +3,7 @@ use Rattle.std.proofs.Common.{◌≡◌, ℕ, ◌+◌, ◌&&◌, ◌*◌, ◌^�
 use Rattle.std.specs.Prelude.{filter}
 use Rattle.std.specs.List.{list_all}
 use Rattle.std.proofs.lemmas.List.Folds.{list_all-append}
+use Rattle.std.proofs.Math.Bool.{and-true}
 use Rattle.blk_base.specs.Options.{Options}
 use Rattle.blk_base.specs.declared.config.Submission.{Submission}
 use Rattle.schedule_text.specs.declared.event.Event.{Event}
@@ -70,15 +71,11 @@ answers_honest order (event ∷ schedule) answers h =
     ∙ (ap (λ (b : Bool). b && list_all is_honest h.1) (answer_honest order event h.0 h.3)
     ∙ ap (λ (b : Bool). is_honest_event event && b) (answers_honest order schedule h.1 h.4)))
 
-and_last : (b : Bool) → (b && true) ≡ b
-and_last true = refl
-and_last false = refl
-
 pub as_honest : (options : Options) (detail : Detail) (schedule : List Event) (report : List Line) → Echoes options detail schedule report → list_all is_honest report ≡ is_honest_schedule schedule
 as_honest options detail schedule report echo =
     ap (list_all is_honest) echo.1
     ∙ (list_all-append is_honest echo.0 (lines.End ∷ [])
-    ∙ (and_last (list_all is_honest echo.0)
+    ∙ (and-true (list_all is_honest echo.0)
     ∙ (ap (list_all is_honest) echo.2.1
     ∙ (sym (echoes_honest echo.2.0)
     ∙ answers_honest options.order schedule (filter is_echo echo.2.0) echo.2.2))))

@@ -4,6 +4,8 @@ use Rattle.std.specs.Prelude.{Option, Some, None}
 use Rattle.std.specs.List.{AllByRecursion, list_any}
 use Rattle.std.specs.Str.{bytes_eq}
 use Rattle.std.proofs.lemmas.List.Folds.{list_any-append}
+use Rattle.std.proofs.lemmas.Bool.{or_parts}
+use Rattle.std.proofs.Math.Bool.{or-false}
 use Rattle.blk_base.specs.Options.{Options}
 use Rattle.blk_base.specs.declared.parts.End.TheVariants as end
 use Rattle.blk_base.specs.declared.moves.Move.{Move}
@@ -65,20 +67,10 @@ kept_due due (lines.Begin config word ∷ ls) all = (λ is. absurd (true≢false
 kept_due due (line ∷ ls) all = (all.0, kept_due (due_after false line) ls all.1)
 
 -- lines of which none is `closing`
-first_none : (a b : Bool) → (a || b) ≡ false → a ≡ false
-first_none true b e = e
-first_none false b e = refl
-
-rest_none : (a b : Bool) → (a || b) ≡ false → b ≡ false
-rest_none true b e = absurd (true≢false e)
-rest_none false b e = e
-
 none_due : (due : StateDue) (ls : List Line) → list_any is_closing ls ≡ false → AreDue due ls
 none_due due [] none = tt
-none_due due (line ∷ ls) none = (
-  λ is. absurd (true≢false (sym is ∙ first_none (is_closing line) (list_any is_closing ls) none)),
-  none_due (due_after false line) ls (rest_none (is_closing line) (list_any is_closing ls) none),
-)
+none_due due (line ∷ ls) none =
+    let both = or_parts (is_closing line) (list_any is_closing ls) none in (λ is. absurd (true≢false (sym is ∙ both.0)), none_due (due_after false line) ls both.1)
 
 due_on : (due : StateDue) (a b : List Line) → AreDue due a → ((d : StateDue) → AreDue d b) → AreDue due (a ++ b)
 due_on due [] b first rest = rest due
@@ -165,16 +157,12 @@ pub begun_shown : (k : StateSight) (ls : List Line) → (from k ls).begun ≡ (l
 begun_shown k [] = refl
 begun_shown k (line ∷ ls) = begun_shown (states.after k line) ls ∙ turned (is_closing line) (list_any is_closing ls) k.begun
 
-pub or_false : (b : Bool) → (b || false) ≡ b
-or_false true = refl
-or_false false = refl
-
 closing_said : (config : Options) (detail : Detail) (h0 : List Happening) → list_any is_closing (kept_of detail (report_of config detail h0)) ≡ (let v : World = after h0 (start_of config) in v.rings.front.closing)
 closing_said config detail h0 =
     let start : World = start_of config in
     let does = all_does h0 start in
     kept_closing detail (report_of config detail h0)
-    ∙ (sym (or_false (list_any is_closing (lines_of h0 start)))
+    ∙ (sym (or-false (list_any is_closing (lines_of h0 start)))
     ∙ (sym (begun_shown new_front (lines_of h0 start))
     ∙ (ap (λ (ls : List Line). (from new_front ls).begun) (lines_lift h0 start)
     ∙ (begun does new_front start.rings refl ∙ ap (λ (r : rings.World). r.front.closing) (sym (after_rings h0 start))))))

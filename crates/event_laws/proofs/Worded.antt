@@ -62,11 +62,7 @@ run_worded config asked e h0 w (h ∷ hs) few at is plain none all =
 
 -- a suspend shows no halt
 suspend_worded : (asked : Bool) (w : World) → AllByRecursion (λ (line : Line). IsWorded asked line) (lines_of (Suspends ∷ []) w)
-suspend_worded asked w = by_may (may_suspend w.rings)
-  where
-    by_may : (b : Bool) → AllByRecursion (λ (line : Line). IsWorded asked line) (((if b then lines.Epoch ∷ [] else []) ++ []) ++ [])
-    by_may true = (tt, tt)
-    by_may false = tt
+suspend_worded asked w = elim (may_suspend w.rings) as (λ b. AllByRecursion (λ (line : Line). IsWorded asked line) (((if b then lines.Epoch ∷ [] else []) ++ []) ++ [])) [ true ↦ (tt, tt) | false ↦ tt ]
 
 made_worded : (config : Options) (asked : Bool) (e : Event) (h0 : List Happening) (w : World) (hs : List Happening) → config.indirect ≤ 960 → after h0 (start_of config) ≡ w → asked_by false h0 (start_of config) ≡ asked → Makes e w hs
     → AllByRecursion (λ (line : Line). IsWorded (unplug_after asked e) line) (lines_of hs w)

@@ -25,7 +25,8 @@ use Rattle.machine_pipeline.specs.Plain.{IsPlain}
 use Rattle.machine_pipeline.proofs.Flow.{own_segments, worked}
 use Rattle.machine_pipeline.proofs.Segments.{own_direct, own_here, own_sound, own_sectors, ranged, eleven}
 use Rattle.machine_pipeline.proofs.Series.{IsSeries, lower}
-use Rattle.machine_pipeline.proofs.Holds.{IsPooled, IsSubmitted, AreSubmitted, AreNumbers, AtWork, IsUnhindered, AreWorks, IsWork}
+use Rattle.machine_pipeline.proofs.Holds.{IsPooled, IsSubmitted, AreSubmitted, AreNumbers}
+use Rattle.machine_pipeline.proofs.HoldsWorks.{AtWork, IsUnhindered, AreWorks, IsWork}
 use Rattle.blk_base.specs.declared.operation.Abi.{Abi}
 use Rattle.blk_layout.specs.Entry.{request_of}
 use Rattle.blk_layout.specs.Range.{IsInRange, AreWords}

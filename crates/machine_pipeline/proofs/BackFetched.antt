@@ -26,7 +26,8 @@ use Rattle.machine_pipeline.proofs.Flow.{Flow, is_issuing, ending_at, telling_at
 use Rattle.machine_pipeline.proofs.Series.{numbered_more}
 use Rattle.machine_pipeline.proofs.Stations.{AreStations}
 use Rattle.machine_pipeline.proofs.StationsBack.{fetches}
-use Rattle.machine_pipeline.proofs.Holds.{Holds, AreIndices, IsSubmitted, IsWork, AreReplies, AreSlots, AreMapped, BackSends}
+use Rattle.machine_pipeline.proofs.Holds.{Holds, AreIndices, IsSubmitted, AreReplies, AreSlots, AreMapped, BackSends}
+use Rattle.machine_pipeline.proofs.HoldsWorks.{IsWork}
 use Rattle.machine_pipeline.proofs.Turns.{BackGoes, Stepped, does_step, goes_by, silent}
 use Rattle.machine_pipeline.proofs.BackStill.{BackStands}
 use Rattle.machine_pipeline.proofs.BackQuiet.{IsBetween, paged_at, between, goes_seen}

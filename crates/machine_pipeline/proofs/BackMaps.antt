@@ -112,133 +112,134 @@ pages_more f value pages m all last page within = elim (cases_eq page (length pa
       rw (get_or_append_left pages (m ∷ []) no_page page before) (all page before)
 ]
 
-maps : (config : Options) (w : World) (g : Flow) (d : Pipeline) (verdict : Result ℕ MapRefusal) (b' : BackStage)
-    → BackStands config w g d stage.MapRing
-    → verdict ≡ Ok (2 + length w.back.pages)
-    → next_gref w.back ≡ 8 + length w.back.pages
-    → (if nat_lt (length w.back.pages + 1) (length w.back.grefs) then stage.MapRing else stage.Bind) ≡ b'
-    → IsSetting b'
-    → PagesAt b' g.shape.order (length w.back.pages + 1)
-    → ActGoes config w d (step_at stage.MapRing w.back) (Some (map_act w.under back_mover.Back (next_gref w.back) ReadWrite verdict))
-maps config w g d verdict b' p e named stepped i mapped = subst (λ (x : Result ℕ MapRefusal). ActGoes config w d (step_at stage.MapRing w.back) (Some (map_act w.under back_mover.Back (next_gref w.back) ReadWrite x))) (sym e)
-    (subst (λ (s : BackStage). Goes config (Move shown ∷ back_lines w.back.told (answer.Mapped mapping) ++ halt_lines w.back.halted w.back.halted) (mapped_at s) d) (sym stepped)
-    (goes_by {g = g} (silent shown w.back.told w.back.halted (answer.Mapped mapping) d p.untold p.holds.unhalted)
-    (assumption (
-      stations,
-      counted,
-      entries,
-      ring,
-      hands,
-      back_at_setting b' g.shape g.start g.fetched g.back_seen g.replied g.series w.back.jobs.works w.back.ring.entry i p.holds.back_at,
-      length-set w.under.pages (gref / 512 * 1024 + 2 * (gref % 512)) value ∙ p.holds.memory,
-      slots_at _ _ _ _ _ _ _ _ new _ _ b' (λ rep t k lt. absurd (none-some rep (sym i.replying ∙ t)))
-          (slots_kept _ _ _ _ _ _ _ _ _ new _ _ p.holds.shaped.narrow (λ f v from to within after. others f (omega arith) v within) p.holds.slots),
-      frames_elsewhere config w g d w.front.stage stage.MapRing new p.holds pool,
-      told_elsewhere config w g d w.front.stage stage.MapRing new p.holds pool,
-      p.holds.paged.shaped refl,
-      p.holds.paged.entries_are refl,
-      p.holds.paged.grefs_are refl,
-      p.holds.paged.port_is refl,
-      subst (PagesAt b' g.shape.order) (sym more) mapped,
-      pages_more (λ (x : Mapping). x.gref) (λ (page : ℕ). 8 + page) w.back.pages mapping p.holds.paged.gref named,
-      pages_more (λ (x : Mapping). x.mode) (λ (page : ℕ). ReadWrite) w.back.pages mapping p.holds.paged.mode refl,
-      sleep_sent (BackSends b' g.replied g.taken) (λ m. m) (λ t s. absurd s) (sleep_kept (others 2 (omega arith) 3 (omega arith)) p.holds.front_sleep),
-      sleep_turned (is_back_arming b') (may_back_sleep b') (λ t. absurd (false≢true (sym i.unarmed ∙ t))) (λ t. p.holds.back_sleep.may refl)
-          (sleep_kept (others 2 (omega arith) 1 (omega arith)) p.holds.back_sleep),
-      subst (λ (bound : Bool). PortsAt g.before (is_connected w.front.stage) bound w.under.channels.made w.under.channels.ports) (sym i.unbound) p.holds.ports,
-    ))))
-  where
-    gref : ℕ
-    gref = next_gref w.back
+-- the next page of the ring is mapped
+module _ (config : Options) (w : World) (g : Flow) (d : Pipeline) (p : BackStands config w g d stage.MapRing) (named : next_gref w.back ≡ 8 + length w.back.pages) where
+  abbrev gref : ℕ
+  gref = next_gref w.back
 
-    low : gref < 24
-    low = let few = few_pages g.shape.order p.holds.shaped.narrow in let fewer = p.holds.paged.mapped in omega (arith, named)
+  low : gref < 24
+  low = let few = few_pages g.shape.order p.holds.shaped.narrow in let fewer = p.holds.paged.mapped in omega (arith, named)
 
-    value : ℕ
-    value = mapped_entry (entry_word0 w.under.pages gref) ReadWrite
+  abbrev value : ℕ
+  value = mapped_entry (entry_word0 w.under.pages gref) ReadWrite
 
-    new : List ℕ
-    new = with_entry_word0 w.under.pages gref value
+  abbrev new : List ℕ
+  new = with_entry_word0 w.under.pages gref value
 
-    mapping : Mapping
-    mapping = next_mapping w.under.grants gref ReadWrite
+  abbrev mapping : Mapping
+  mapping = next_mapping w.under.grants gref ReadWrite
 
-    made : Held
-    made = record { mapping = mapping; frame = 2 + length w.back.pages }
+  abbrev made : Held
+  made = record { mapping = mapping; frame = 2 + length w.back.pages }
 
-    shown : Shown
-    shown = moves.Map back_mover.Back gref ReadWrite (w.under.grants.made + 1) (2 + length w.back.pages)
+  abbrev shown : Shown
+  shown = moves.Map back_mover.Back gref ReadWrite (w.under.grants.made + 1) (2 + length w.back.pages)
 
-    mapped_at : BackStage → World
-    mapped_at s = record {
-      front = w.front;
-      back = record w.back { pages = w.back.pages ++ mapping ∷ []; stage = s; told = None };
-      under = record w.under { grants = record { made = w.under.grants.made + 1; live = w.under.grants.live ++ made ∷ [] }; pages = new };
-    }
+  abbrev mapped_at : BackStage → World
+  mapped_at s = record {
+    front = w.front;
+    back = record w.back { pages = w.back.pages ++ mapping ∷ []; stage = s; told = None };
+    under = record w.under { grants = record { made = w.under.grants.made + 1; live = w.under.grants.live ++ made ∷ [] }; pages = new };
+  }
 
-    more : length (w.back.pages ++ mapping ∷ []) ≡ length w.back.pages + 1
-    more = length-append w.back.pages (mapping ∷ [])
+  more : length (w.back.pages ++ mapping ∷ []) ≡ length w.back.pages + 1
+  more = length-append w.back.pages (mapping ∷ [])
 
-    others : (f : ℕ) → f ≢ 0 → SameFrame w.under.pages new f
-    others f apart = other_frame w.under.pages (gref / 512) (2 * (gref % 512)) value f (omega (arith, low)) (omega (arith, low))
+  -- what the map of a page leaves
+  others : (f : ℕ) → f ≢ 0 → SameFrame w.under.pages new f
+  others f apart = other_frame w.under.pages (gref / 512) (2 * (gref % 512)) value f (omega (arith, low)) (omega (arith, low))
 
-    pool : (f : ℕ) → 18 ≤ f → f < 1018 → SameFrame w.under.pages new f
-    pool f from to = others f (omega arith)
+  pool : (f : ℕ) → 18 ≤ f → f < 1018 → SameFrame w.under.pages new f
+  pool f from to = others f (omega arith)
 
-    beside : (page : ℕ) → page < 2 ^ g.shape.order → length (w.back.pages ++ mapping ∷ []) ≤ page → SameEntry w.under.pages new (8 + page)
-    beside page few from =
-        let all = few_pages g.shape.order p.holds.shaped.narrow in
-        other_entry w.under.pages gref (8 + page) value (omega (arith, low)) (omega arith) (omega (arith, named, more))
+  beside : (page : ℕ) → page < 2 ^ g.shape.order → length (w.back.pages ++ mapping ∷ []) ≤ page → SameEntry w.under.pages new (8 + page)
+  beside page few from =
+      let all = few_pages g.shape.order p.holds.shaped.narrow in
+      other_entry w.under.pages gref (8 + page) value (omega (arith, low)) (omega arith) (omega (arith, named, more))
 
-    counted : length w.back.jobs.works + reply_count (reply_at b') + g.replied ≡ g.fetched
-    counted = rw i.replying p.holds.counted
+  counted : (b' : BackStage) → IsSetting b' → length w.back.jobs.works + reply_count (reply_at b') + g.replied ≡ g.fetched
+  counted b' i = rw i.replying p.holds.counted
 
-    stations : StationsOf config w g d (is_fetching b') (reply_at b') w.back.jobs.works new
-    stations = rw (i.fetching, i.replying) (stations_elsewhere _ _ _ _ _ _ _ _ _ _ _ _ new _ _ p.holds.submitted pool p.holds.stations)
+  stations : (b' : BackStage) → IsSetting b' → StationsOf config w g d (is_fetching b') (reply_at b') w.back.jobs.works new
+  stations b' i = rw (i.fetching, i.replying) (stations_elsewhere _ _ _ _ _ _ _ _ _ _ _ _ new _ _ p.holds.submitted pool p.holds.stations)
 
-    ring : AreRingWords g.shape.order g.start g.pushed g.replied new w.front.stage (length (w.back.pages ++ mapping ∷ []))
-    ring =
-        let all = named_to w.front.stage (2 ^ g.shape.order) p.connected in
-        let granted = granted_to w.front.stage (2 ^ g.shape.order) p.connected in
-        record {
-          begun = begun g.start new w.front.stage p.connected;
-          requests = λ t. others 2 (omega arith) 0 (omega arith) ∙ p.holds.ring.requests t;
-          responses = λ t. others 2 (omega arith) 2 (omega arith) ∙ p.holds.ring.responses t;
-          named = λ page lt from. (beside page (omega arith) from).frame ∙ p.holds.ring.named page lt (omega (arith, more));
-          granted = λ page lt from. (beside page (omega arith) from).flags ∙ p.holds.ring.granted page lt (omega (arith, more));
-        }
+  ring : AreRingWords g.shape.order g.start g.pushed g.replied new w.front.stage (length (w.back.pages ++ mapping ∷ []))
+  ring =
+      let all = named_to w.front.stage (2 ^ g.shape.order) p.connected in
+      let granted = granted_to w.front.stage (2 ^ g.shape.order) p.connected in
+      record {
+        begun = begun g.start new w.front.stage p.connected;
+        requests = λ t. others 2 (omega arith) 0 (omega arith) ∙ p.holds.ring.requests t;
+        responses = λ t. others 2 (omega arith) 2 (omega arith) ∙ p.holds.ring.responses t;
+        named = λ page lt from. (beside page (omega arith) from).frame ∙ p.holds.ring.named page lt (omega (arith, more));
+        granted = λ page lt from. (beside page (omega arith) from).flags ∙ p.holds.ring.granted page lt (omega (arith, more));
+      }
 
-    entries : AreEntries g.series g.pushed new (w.under.grants.live ++ made ∷ []) w.front.stage w.front.ending w.front.requests
-    entries = record {
-      each = all_from (IsGranted g.series g.pushed new (w.under.grants.live ++ made ∷ []) w.front.stage) w.front.requests (λ k r at.
-          let is = is_submitted config w g d w.front.stage stage.MapRing p.holds k r at in
-          granted_still g.pushed w.under.pages new w.under.grants.live made w.front.stage r (λ place lt. omega (arith, (pooled_at r is.frames place).0, low))
-          (entry_beside w.under.pages gref value r low is.frames)
-          (all_at (IsGranted g.series g.pushed w.under.pages w.under.grants.live w.front.stage) w.front.requests k r p.holds.entries.each at));
-      ending = λ e at place from lt.
-          let is = ending_submitted config w g d w.front.stage stage.MapRing e p.holds (revoking_ends w.front.stage w.front.ending e at) in
-          (entry_beside w.under.pages gref value e.request low is.frames place lt).flags ∙ p.holds.entries.ending e at place from lt;
-    }
+  entries : AreEntries g.series g.pushed new (w.under.grants.live ++ made ∷ []) w.front.stage w.front.ending w.front.requests
+  entries = record {
+    each = all_from (IsGranted g.series g.pushed new (w.under.grants.live ++ made ∷ []) w.front.stage) w.front.requests (λ k r at.
+        let is = is_submitted config w g d w.front.stage stage.MapRing p.holds k r at in
+        granted_still g.pushed w.under.pages new w.under.grants.live made w.front.stage r (λ place lt. omega (arith, (pooled_at r is.frames place).0, low))
+        (entry_beside w.under.pages gref value r low is.frames)
+        (all_at (IsGranted g.series g.pushed w.under.pages w.under.grants.live w.front.stage) w.front.requests k r p.holds.entries.each at));
+    ending = λ e at place from lt.
+        let is = ending_submitted config w g d w.front.stage stage.MapRing e p.holds (revoking_ends w.front.stage w.front.ending e at) in
+        (entry_beside w.under.pages gref value e.request low is.frames place lt).flags ∙ p.holds.entries.ending e at place from lt;
+  }
 
-    hands : AreMapped (w.under.grants.live ++ made ∷ []) (aborted b' ++ (hands_in w.back.jobs.works ++ (w.back.pages ++ mapping ∷ [])))
-    hands = rw i.given (mapped_more _ (hands_in w.back.jobs.works ++ w.back.pages) (hands_in w.back.jobs.works ++ (w.back.pages ++ mapping ∷ [])) mapping _ (omega (arith, named))
-        (record {
-          front = hands_in w.back.jobs.works ++ w.back.pages;
-          rest = [];
-          without = sym (append-nil (hands_in w.back.jobs.works ++ w.back.pages));
-          with_it = sym (append_assoc (hands_in w.back.jobs.works) w.back.pages (mapping ∷ []));
-        }) p.holds.mapped)
+  hands : (b' : BackStage) → IsSetting b' → AreMapped (w.under.grants.live ++ made ∷ []) (aborted b' ++ (hands_in w.back.jobs.works ++ (w.back.pages ++ mapping ∷ [])))
+  hands b' i = rw i.given (mapped_more _ (hands_in w.back.jobs.works ++ w.back.pages) (hands_in w.back.jobs.works ++ (w.back.pages ++ mapping ∷ [])) mapping _ (omega (arith, named))
+      (record {
+        front = hands_in w.back.jobs.works ++ w.back.pages;
+        rest = [];
+        without = sym (append-nil (hands_in w.back.jobs.works ++ w.back.pages));
+        with_it = sym (append_assoc (hands_in w.back.jobs.works) w.back.pages (mapping ∷ []));
+      }) p.holds.mapped)
+
+  maps : (verdict : Result ℕ MapRefusal) (b' : BackStage)
+      → verdict ≡ Ok (2 + length w.back.pages)
+      → (if nat_lt (length w.back.pages + 1) (length w.back.grefs) then stage.MapRing else stage.Bind) ≡ b'
+      → IsSetting b'
+      → PagesAt b' g.shape.order (length w.back.pages + 1)
+      → ActGoes config w d (step_at stage.MapRing w.back) (Some (map_act w.under back_mover.Back (next_gref w.back) ReadWrite verdict))
+  maps verdict b' e stepped i mapped = subst (λ (x : Result ℕ MapRefusal). ActGoes config w d (step_at stage.MapRing w.back) (Some (map_act w.under back_mover.Back (next_gref w.back) ReadWrite x))) (sym e)
+      (subst (λ (s : BackStage). Goes config (Move shown ∷ back_lines w.back.told (answer.Mapped mapping) ++ halt_lines w.back.halted w.back.halted) (mapped_at s) d) (sym stepped)
+      (goes_by {g = g} (silent shown w.back.told w.back.halted (answer.Mapped mapping) d p.untold p.holds.unhalted)
+      (assumption (
+        stations b' i,
+        counted b' i,
+        entries,
+        ring,
+        hands b' i,
+        back_at_setting b' g.shape g.start g.fetched g.back_seen g.replied g.series w.back.jobs.works w.back.ring.entry i p.holds.back_at,
+        length-set w.under.pages (gref / 512 * 1024 + 2 * (gref % 512)) value ∙ p.holds.memory,
+        slots_at _ _ _ _ _ _ _ _ new _ _ b' (λ rep t k lt. absurd (none-some rep (sym i.replying ∙ t)))
+            (slots_kept _ _ _ _ _ _ _ _ _ new _ _ p.holds.shaped.narrow (λ f v from to within after. others f (omega arith) v within) p.holds.slots),
+        frames_elsewhere config w g d w.front.stage stage.MapRing new p.holds pool,
+        told_elsewhere config w g d w.front.stage stage.MapRing new p.holds pool,
+        p.holds.paged.shaped refl,
+        p.holds.paged.entries_are refl,
+        p.holds.paged.grefs_are refl,
+        p.holds.paged.port_is refl,
+        subst (PagesAt b' g.shape.order) (sym more) mapped,
+        pages_more (λ (x : Mapping). x.gref) (λ (page : ℕ). 8 + page) w.back.pages mapping p.holds.paged.gref named,
+        pages_more (λ (x : Mapping). x.mode) (λ (page : ℕ). ReadWrite) w.back.pages mapping p.holds.paged.mode refl,
+        sleep_sent (BackSends b' g.replied g.taken) (λ m. m) (λ t s. absurd s) (sleep_kept (others 2 (omega arith) 3 (omega arith)) p.holds.front_sleep),
+        sleep_turned (is_back_arming b') (may_back_sleep b') (λ t. absurd (false≢true (sym i.unarmed ∙ t))) (λ t. p.holds.back_sleep.may refl)
+            (sleep_kept (others 2 (omega arith) 1 (omega arith)) p.holds.back_sleep),
+        subst (λ (bound : Bool). PortsAt g.before (is_connected w.front.stage) bound w.under.channels.made w.under.channels.ports) (sym i.unbound) p.holds.ports,
+      ))))
 
 -- whether another page is to be mapped
 maps_by : (config : Options) (w : World) (g : Flow) (d : Pipeline) (more : Bool) → BackStands config w g d stage.MapRing → (length w.back.grefs ≡ 2 ^ g.shape.order) → next_gref w.back ≡ 8 + length w.back.pages → verdict_at w.under.pages (next_gref w.back) ReadWrite ≡ Ok (2 + length w.back.pages) → nat_lt (length w.back.pages + 1) (length w.back.grefs) ≡ more
     → BackGoes config w d stage.MapRing
 maps_by config w g d true p all named verdict further =
     let lt : length w.back.pages + 1 < length w.back.grefs = grind (arith, nat_tests) in
-    maps config w g d (verdict_at w.under.pages (next_gref w.back) ReadWrite) stage.MapRing p verdict named (rw further refl)
+    maps config w g d p named (verdict_at w.under.pages (next_gref w.back) ReadWrite) stage.MapRing verdict (rw further refl)
     (record { terms = refl; fetching = refl; replying = refl; unarmed = refl; unbound = refl; given = refl }) (omega arith)
 maps_by config w g d false p all named verdict further =
     let last : length w.back.pages + 1 ≡ 2 ^ g.shape.order = grind (arith, nat_tests, p.holds.paged.mapped) in
-    maps config w g d (verdict_at w.under.pages (next_gref w.back) ReadWrite) stage.Bind p verdict named (rw further refl)
+    maps config w g d p named (verdict_at w.under.pages (next_gref w.back) ReadWrite) stage.Bind verdict (rw further refl)
     (record { terms = refl; fetching = refl; replying = refl; unarmed = refl; unbound = refl; given = refl }) last
 
 pub goes_map_ring : (config : Options) (w : World) (g : Flow) (d : Pipeline) → BackStands config w g d stage.MapRing → BackGoes config w d stage.MapRing

@@ -28,7 +28,8 @@ use Rattle.blk_back.specs.Hands.{hands_at}
 use Rattle.split_model.specs.World.{World}
 use Rattle.split_model.specs.Shown.{back_lines, halt_lines}
 use Rattle.machine_pipeline.proofs.Flow.{Flow, wrapped, is_back_arming, may_back_sleep, is_bound_back, reply_at, reply_count, responded, is_issuing, is_fetching, ending_at, telling_at}
-use Rattle.machine_pipeline.proofs.Holds.{Holds, AreIndices, AreWorks, AreSlots, slot_of, BackSends, BackAt, PortsAt}
+use Rattle.machine_pipeline.proofs.Holds.{Holds, AreIndices, AreSlots, slot_of, BackSends, BackAt, PortsAt}
+use Rattle.machine_pipeline.proofs.HoldsWorks.{AreWorks}
 use Rattle.machine_pipeline.proofs.Turns.{BackGoes, Goes, silent}
 use Rattle.machine_pipeline.proofs.Slots.{response_fits, slot_at, slot_from, slot_frame_from, slot_frame_to, slot_to, slots_apart, same_slot}
 use Rattle.machine_pipeline.proofs.BackStill.{BackStands}

@@ -23,7 +23,8 @@ use Rattle.blk_back.specs.Step.{fetched}
 use Rattle.split_model.specs.World.{World}
 use Rattle.split_model.specs.Shown.{back_lines, halt_lines}
 use Rattle.machine_pipeline.proofs.Flow.{Flow, worked}
-use Rattle.machine_pipeline.proofs.Holds.{Holds, IsUnhindered, AreSubmitted, AreWorks, IsWork, IsReplying}
+use Rattle.machine_pipeline.proofs.Holds.{Holds, AreSubmitted, IsReplying}
+use Rattle.machine_pipeline.proofs.HoldsWorks.{IsUnhindered, AreWorks, IsWork}
 use Rattle.machine_pipeline.specs.Step.{IsSame}
 use Rattle.machine_pipeline.proofs.Turns.{Goes, Stepped, does_step}
 use Rattle.machine_pipeline.proofs.Lists.{all_at, all_from}

@@ -19,7 +19,8 @@ use Rattle.split_model.specs.Safe.{AreHeld}
 use Rattle.machine_pipeline.specs.Plain.{IsPlain}
 use Rattle.machine_pipeline.proofs.Flow.{Flow, ending_at, revoking_at, is_bound_back, reply_at, reply_count, is_issuing, is_fetching, telling_at}
 use Rattle.machine_pipeline.proofs.Stations.{AreStations, saw_more}
-use Rattle.machine_pipeline.proofs.Holds.{Holds, IsEnding, AreIndices, IsSubmitted, AreWorks, AreRingWords, AreSlots, IsPooled, IsFilled, AreDataWords, AreEntries, ArePaged, IsFrontSleep, IsBackSleep, BackAt, PortsAt, AreMapped}
+use Rattle.machine_pipeline.proofs.Holds.{Holds, IsEnding, AreIndices, IsSubmitted, AreRingWords, AreSlots, IsPooled, IsFilled, AreDataWords, AreEntries, ArePaged, IsFrontSleep, IsBackSleep, BackAt, PortsAt, AreMapped}
+use Rattle.machine_pipeline.proofs.HoldsWorks.{AreWorks}
 use Rattle.machine_pipeline.proofs.Lists.{all_from}
 use Rattle.machine_pipeline.proofs.Frames.{ending_is, told_few, is_submitted}
 use Rattle.machine_pipeline.proofs.Data.{SameData, pooled_at}

@@ -135,122 +135,120 @@ data_are transfer.Read Okay t = (refl, refl)
 data_are way status t = first_of (assumption, cc)
 
 -- the entry is exchanged for none: the next grant is ended, or the answer told, and the data of a read that went well are told next
-pub grant_end_goes : (config : Options) (w : World) (g : Flow) (d : Pipeline) (place before : ℕ)
-    → w.front.told ≡ None
-    → Holds config w g d (front.GrantEnd place before) w.back.stage
-    → FrontGoes config w d (front.GrantEnd place before)
-grant_end_goes config w g d place before untold h =
-    subst (λ (x : Option Ending). ActGoes config w d (front.GrantEnd place before) (end_ask x place before)) (sym h.front_at.1)
-    (subst (λ (x : View). Becomes x (swapped w.under.pages (entry_frame frame) (entry_word frame) before 0)) (sym stepped)
-    (subst (λ (ps : List ℕ). Becomes (revoked_by (Some e) place w.front) ps) (sym (ap (λ (b : Bool). if b then pages else w.under.pages) tested))
-    (by_more (nat_lt (place + 1) (frames_of e.request)) refl)))
-  where
-    e : Ending
-    e = h.front_at.0
+module _ (config : Options) (w : World) (g : Flow) (d : Pipeline) (place before : ℕ) (untold : w.front.told ≡ None) (h : Holds config w g d (front.GrantEnd place before) w.back.stage) where
+  abbrev e : Ending
+  e = h.front_at.0
 
-    is : IsEnding g.submitted g.replies e
-    is = h.front_at.2
+  is : IsEnding g.submitted g.replies e
+  is = h.front_at.2
 
-    its : IsSubmitted config.sectors (e.request.number - 1) e.request
-    its = let submitted = h.submitted in submitted.each (e.request.number - 1) e.request is.known
+  its : IsSubmitted config.sectors (e.request.number - 1) e.request
+  its = let submitted = h.submitted in submitted.each (e.request.number - 1) e.request is.known
 
-    frame : ℕ
-    frame = frame_at e.request place
+  abbrev frame : ℕ
+  frame = frame_at e.request place
 
-    pooled : IsPooled frame
-    pooled = pooled_at e.request its.frames place
+  pooled : IsPooled frame
+  pooled = pooled_at e.request its.frames place
 
-    word : ℕ
-    word = word_of w.under.pages (entry_frame frame) (entry_word frame)
+  abbrev word : ℕ
+  word = word_of w.under.pages (entry_frame frame) (entry_word frame)
 
-    Becomes : View → List ℕ → Type 0
-    Becomes x ps = Goes config (lines.Move (moves.FrontCas (entry_frame frame) (entry_word frame) before 0 word) ∷ front_lines x.told) (record { front = record x { told = None }; back = w.back; under = record w.under { pages = ps } }) d
+  abbrev Becomes : View → List ℕ → Type 0
+  Becomes x ps = Goes config (lines.Move (moves.FrontCas (entry_frame frame) (entry_word frame) before 0 word) ∷ front_lines x.told) (record { front = record x { told = None }; back = w.back; under = record w.under { pages = ps } }) d
 
-    tested : (word == before) ≡ true
-    tested = same_number word before (h.entries.ending e h.front_at.1 place (omega arith) h.front_at.3.0 ∙ sym h.front_at.3.1)
+  tested : (word == before) ≡ true
+  tested = same_number word before (h.entries.ending e h.front_at.1 place (omega arith) h.front_at.3.0 ∙ sym h.front_at.3.1)
 
-    pages : List ℕ
-    pages = with_word w.under.pages (entry_frame frame) (entry_word frame) 0
+  abbrev pages : List ℕ
+  pages = with_word w.under.pages (entry_frame frame) (entry_word frame) 0
 
-    stepped : exchanged w.front place before word ≡ revoked_by (Some e) place w.front
-    stepped = ap (λ (b : Bool). if b then revoked_by w.front.ending place w.front else broken word w.front) tested
-        ∙ ap (λ (x : Option Ending). revoked_by x place w.front) h.front_at.1
+  stepped : exchanged w.front place before word ≡ revoked_by (Some e) place w.front
+  stepped = ap (λ (b : Bool). if b then revoked_by w.front.ending place w.front else broken word w.front) tested
+      ∙ ap (λ (x : Option Ending). revoked_by x place w.front) h.front_at.1
 
-    sized : length pages ≡ 1114112
-    sized = length-set w.under.pages (entry_frame frame * 1024 + entry_word frame) 0 ∙ h.memory
+  sized : length pages ≡ 1114112
+  sized = length-set w.under.pages (entry_frame frame * 1024 + entry_word frame) 0 ∙ h.memory
 
-    words : (f : ℕ) → 2 ≤ f → SameFrame w.under.pages pages f
-    words f from = other_frame w.under.pages (entry_frame frame) (entry_word frame) 0 f (omega arith) (let top = pooled.1 in omega arith)
+  words : (f : ℕ) → 2 ≤ f → SameFrame w.under.pages pages f
+  words f from = other_frame w.under.pages (entry_frame frame) (entry_word frame) 0 f (omega arith) (let top = pooled.1 in omega arith)
 
-    apart_entry : (gref : ℕ) → gref < 1024 → gref ≢ frame + 6 → SameEntry w.under.pages pages gref
-    apart_entry gref few apart = other_entry w.under.pages (frame + 6) gref 0 (let top = pooled.1 in omega arith) few apart
+  apart_entry : (gref : ℕ) → gref < 1024 → gref ≢ frame + 6 → SameEntry w.under.pages pages gref
+  apart_entry gref few apart = other_entry w.under.pages (frame + 6) gref 0 (let top = pooled.1 in omega arith) few apart
 
-    owned : ArePooled w.front.pool w.front.requests (Some e)
-    owned = subst (ArePooled w.front.pool w.front.requests) h.front_at.1 h.pool
+  owned : ArePooled w.front.pool w.front.requests (Some e)
+  owned = subst (ArePooled w.front.pool w.front.requests) h.front_at.1 h.pool
 
-    -- the entries of the front's requests are others
-    same_grants : (j : ℕ) (r : Request) → slice_get w.front.requests j ≡ Some r → SameGrants w.under.pages pages r
-    same_grants j r there a lt =
-        let in_pool = pooled_at r (is_submitted config w g d (front.GrantEnd place before) w.back.stage h j r there).frames a in
-        let apart = ending_apart w.front.pool w.front.requests e j r owned there a place lt h.front_at.3.0 in_pool in
-        apart_entry (frame_at r a + 6) (let top = in_pool.1 in omega arith) (λ same. apart (omega arith))
+  -- the entries of the front's requests are others
+  same_grants : (j : ℕ) (r : Request) → slice_get w.front.requests j ≡ Some r → SameGrants w.under.pages pages r
+  same_grants j r there a lt =
+      let in_pool = pooled_at r (is_submitted config w g d (front.GrantEnd place before) w.back.stage h j r there).frames a in
+      let apart = ending_apart w.front.pool w.front.requests e j r owned there a place lt h.front_at.3.0 in_pool in
+      apart_entry (frame_at r a + 6) (let top = in_pool.1 in omega arith) (λ same. apart (omega arith))
 
-    entries_end : (s : FrontStage) (ending : Option Ending) → is_issuing s ≡ false → AreRevoked pages s ending → AreEntries g.series g.pushed pages w.under.grants.live s ending w.front.requests
-    entries_end s ending i left =
-        let begun = idle s i in
-        entries_turned h pages s ending (omega (arith, begun.unnamed)) (omega (arith, begun.ungranted)) (all_from (SameGrants w.under.pages pages) w.front.requests same_grants) left
+  entries_end : (s : FrontStage) (ending : Option Ending) → is_issuing s ≡ false → AreRevoked pages s ending → AreEntries g.series g.pushed pages w.under.grants.live s ending w.front.requests
+  entries_end s ending i left =
+      let begun = idle s i in
+      entries_turned h pages s ending (omega (arith, begun.unnamed)) (omega (arith, begun.ungranted)) (all_from (SameGrants w.under.pages pages) w.front.requests same_grants) left
 
-    -- and so are those of its own frames that are left
-    left : AreRevoked pages (front.GrantRead (place + 1)) w.front.ending
-    left x same = subst (λ (y : Ending). (a : ℕ) → place + 1 ≤ a → a < frames_of y.request
-        → entry_word0 pages (frame_at y.request a + 6) ≡ flags_at y.request a) (same_Some e x (sym h.front_at.1 ∙ same)) (λ a le lt.
-        let in_pool = pooled_at e.request its.frames a in
-        let apart = ending_own_apart w.front.pool w.front.requests e owned a place (omega arith) lt h.front_at.3.0 in_pool in
-        let kept = apart_entry (frame_at e.request a + 6) (let top = in_pool.1 in omega arith) (λ same. apart (omega arith)) in
-        kept.flags ∙ h.entries.ending e h.front_at.1 a (omega arith) lt)
+  -- and so are those of its own frames that are left
+  left : AreRevoked pages (front.GrantRead (place + 1)) w.front.ending
+  left x same = subst (λ (y : Ending). (a : ℕ) → place + 1 ≤ a → a < frames_of y.request
+      → entry_word0 pages (frame_at y.request a + 6) ≡ flags_at y.request a) (same_Some e x (sym h.front_at.1 ∙ same)) (λ a le lt.
+      let in_pool = pooled_at e.request its.frames a in
+      let apart = ending_own_apart w.front.pool w.front.requests e owned a place (omega arith) lt h.front_at.3.0 in_pool in
+      let kept = apart_entry (frame_at e.request a + 6) (let top = in_pool.1 in omega arith) (λ same. apart (omega arith)) in
+      kept.flags ∙ h.entries.ending e h.front_at.1 a (omega arith) lt)
 
-    elsewhere : (p : Pipeline) (ending : Option Ending) (telling : Option ℕ) → AreStations config g p true false (is_fetching w.back.stage) ending telling (reply_at w.back.stage) w.front.requests w.back.jobs.works w.under.pages → AreStations config g p true false (is_fetching w.back.stage) ending telling (reply_at w.back.stage) w.front.requests w.back.jobs.works pages
-    elsewhere p ending telling = stations_elsewhere config g p true false (is_fetching w.back.stage) ending telling (reply_at w.back.stage) w.front.requests w.back.jobs.works w.under.pages pages config.sectors w.front.last h.submitted (λ f from to. words f (omega arith))
+  elsewhere : (p : Pipeline) (ending : Option Ending) (telling : Option ℕ) → AreStations config g p true false (is_fetching w.back.stage) ending telling (reply_at w.back.stage) w.front.requests w.back.jobs.works w.under.pages → AreStations config g p true false (is_fetching w.back.stage) ending telling (reply_at w.back.stage) w.front.requests w.back.jobs.works pages
+  elsewhere p ending telling = stations_elsewhere config g p true false (is_fetching w.back.stage) ending telling (reply_at w.back.stage) w.front.requests w.back.jobs.works w.under.pages pages config.sectors w.front.last h.submitted (λ f from to. words f (omega arith))
 
-    ring_kept : SameRing w.under.pages pages
-    ring_kept page lt = let from = pooled.0 in apart_entry (8 + page) (omega arith) (omega arith)
+  ring_kept : SameRing w.under.pages pages
+  ring_kept page lt = let from = pooled.0 in apart_entry (8 + page) (omega arith) (omega arith)
 
-    stations : AreStations config g d true false (is_fetching w.back.stage) (Some e) None
-        (reply_at w.back.stage) w.front.requests w.back.jobs.works w.under.pages
-    stations = subst (λ (x : Option Ending). AreStations config g d true false (is_fetching w.back.stage) x None
-        (reply_at w.back.stage) w.front.requests w.back.jobs.works w.under.pages) h.front_at.1 h.stations
+  stations : AreStations config g d true false (is_fetching w.back.stage) (Some e) None
+      (reply_at w.back.stage) w.front.requests w.back.jobs.works w.under.pages
+  stations = subst (λ (x : Option Ending). AreStations config g d true false (is_fetching w.back.stage) x None
+      (reply_at w.back.stage) w.front.requests w.back.jobs.works w.under.pages) h.front_at.1 h.stations
 
-    by_data : (b : Bool) → has_data e.request.transfer e.status ≡ b
-        → Becomes (if b then record w.front { stage = front.ReadData 0; told = Some (told.Answer e.request.number e.status) }
-        else record (finished e w.front) { told = Some (told.Answer e.request.number e.status) }) pages
-    by_data false t =
-        let s = answers config g d true false (is_fetching w.back.stage)
-        (reply_at w.back.stage) w.front.requests w.back.jobs.works w.under.pages e None is.known is.positive
-        (unread e.request.transfer e.request.sector e.request.count e.status t) (λ x. cc) stations in
-        goes_by (does_step (moves.FrontCas (entry_frame frame) (entry_word frame) before 0 word) (lines.Answer e.request.number e.status ∷ []) refl s)
-        (ends_on config w g d (next d s.step) (front.GrantEnd place before) front.Loop None (with_all_free w.front.pool e.request.frames.items) w.front.words pages refl refl refl refl (omega arith) h
-        (elsewhere (next d s.step) None None s.now) (pooled_free w.front.pool w.front.requests e its.frames owned) tt
-        (data_rests w.under.pages pages w.front.words w.front.ending None (front.GrantEnd place before) front.Loop refl h.telling)
-        (entries_end front.Loop None refl (λ x same. absurd (none-some x same))) sized words ring_kept)
-    by_data true t =
-        let read = data_are e.request.transfer e.status t in
-        let s = answers config g d true false (is_fetching w.back.stage) (reply_at w.back.stage) w.front.requests w.back.jobs.works w.under.pages e (Some 0) is.known is.positive
-        (read_well e.request.transfer e.request.sector e.request.count e.status t) (λ x. read.1) stations in
-        goes_by (does_step (moves.FrontCas (entry_frame frame) (entry_word frame) before 0 word) (lines.Answer e.request.number e.status ∷ []) refl s)
-        (ends_on config w g d (next d s.step) (front.GrantEnd place before) (front.ReadData 0) w.front.ending w.front.pool w.front.words pages refl refl refl refl (omega arith) h
-        (subst (λ (x : Option Ending). AreStations config g (next d s.step) true false (is_fetching w.back.stage) x (Some 0)
-        (reply_at w.back.stage) w.front.requests w.back.jobs.works pages) (sym h.front_at.1) (elsewhere (next d s.step) (Some e) (Some 0) s.now))
-        h.pool (e, h.front_at.1, is, (some_word e.request place its.shaped h.front_at.3.0, read.0, read.1))
-        (let was = h.telling in record { size = was.size; so_far = λ x same k lt. absurd (omega arith) })
-        (entries_end (front.ReadData 0) w.front.ending refl (λ x same. absurd (none-some x same))) sized words ring_kept)
+  by_data : (b : Bool) → has_data e.request.transfer e.status ≡ b
+      → Becomes (if b then record w.front { stage = front.ReadData 0; told = Some (told.Answer e.request.number e.status) }
+      else record (finished e w.front) { told = Some (told.Answer e.request.number e.status) }) pages
+  by_data false t =
+      let s = answers config g d true false (is_fetching w.back.stage)
+      (reply_at w.back.stage) w.front.requests w.back.jobs.works w.under.pages e None is.known is.positive
+      (unread e.request.transfer e.request.sector e.request.count e.status t) (λ x. cc) stations in
+      goes_by (does_step (moves.FrontCas (entry_frame frame) (entry_word frame) before 0 word) (lines.Answer e.request.number e.status ∷ []) refl s)
+      (ends_on config w g d (next d s.step) (front.GrantEnd place before) front.Loop None (with_all_free w.front.pool e.request.frames.items) w.front.words pages refl refl refl refl (omega arith) h
+      (elsewhere (next d s.step) None None s.now) (pooled_free w.front.pool w.front.requests e its.frames owned) tt
+      (data_rests w.under.pages pages w.front.words w.front.ending None (front.GrantEnd place before) front.Loop refl h.telling)
+      (entries_end front.Loop None refl (λ x same. absurd (none-some x same))) sized words ring_kept)
+  by_data true t =
+      let read = data_are e.request.transfer e.status t in
+      let s = answers config g d true false (is_fetching w.back.stage) (reply_at w.back.stage) w.front.requests w.back.jobs.works w.under.pages e (Some 0) is.known is.positive
+      (read_well e.request.transfer e.request.sector e.request.count e.status t) (λ x. read.1) stations in
+      goes_by (does_step (moves.FrontCas (entry_frame frame) (entry_word frame) before 0 word) (lines.Answer e.request.number e.status ∷ []) refl s)
+      (ends_on config w g d (next d s.step) (front.GrantEnd place before) (front.ReadData 0) w.front.ending w.front.pool w.front.words pages refl refl refl refl (omega arith) h
+      (subst (λ (x : Option Ending). AreStations config g (next d s.step) true false (is_fetching w.back.stage) x (Some 0)
+      (reply_at w.back.stage) w.front.requests w.back.jobs.works pages) (sym h.front_at.1) (elsewhere (next d s.step) (Some e) (Some 0) s.now))
+      h.pool (e, h.front_at.1, is, (some_word e.request place its.shaped h.front_at.3.0, read.0, read.1))
+      (let was = h.telling in record { size = was.size; so_far = λ x same k lt. absurd (omega arith) })
+      (entries_end (front.ReadData 0) w.front.ending refl (λ x same. absurd (none-some x same))) sized words ring_kept)
 
-    by_more : (b : Bool) → nat_lt (place + 1) (frames_of e.request) ≡ b
-        → Becomes (if b then at_stage (front.GrantRead (place + 1)) w.front else ended e w.front) pages
-    by_more true t = goes_by (said_nothing d (moves.FrontCas (entry_frame frame) (entry_word frame) before 0 word) w.front.told untold)
-        (ends_on config w g d d (front.GrantEnd place before) (front.GrantRead (place + 1)) w.front.ending w.front.pool w.front.words pages
-        refl refl refl refl (omega arith) h
-        (elsewhere d w.front.ending None h.stations) h.pool (e, h.front_at.1, is, (grind (arith, nat_tests)))
-        (data_rests w.under.pages pages w.front.words w.front.ending w.front.ending (front.GrantEnd place before)
-        (front.GrantRead (place + 1)) refl h.telling)
-        (entries_end (front.GrantRead (place + 1)) w.front.ending refl left) sized words ring_kept)
-    by_more false t = by_data (has_data e.request.transfer e.status) refl
+  by_more : (b : Bool) → nat_lt (place + 1) (frames_of e.request) ≡ b
+      → Becomes (if b then at_stage (front.GrantRead (place + 1)) w.front else ended e w.front) pages
+  by_more true t = goes_by (said_nothing d (moves.FrontCas (entry_frame frame) (entry_word frame) before 0 word) w.front.told untold)
+      (ends_on config w g d d (front.GrantEnd place before) (front.GrantRead (place + 1)) w.front.ending w.front.pool w.front.words pages
+      refl refl refl refl (omega arith) h
+      (elsewhere d w.front.ending None h.stations) h.pool (e, h.front_at.1, is, (grind (arith, nat_tests)))
+      (data_rests w.under.pages pages w.front.words w.front.ending w.front.ending (front.GrantEnd place before)
+      (front.GrantRead (place + 1)) refl h.telling)
+      (entries_end (front.GrantRead (place + 1)) w.front.ending refl left) sized words ring_kept)
+  by_more false t = by_data (has_data e.request.transfer e.status) refl
+
+  pub grant_end_goes : FrontGoes config w d (front.GrantEnd place before)
+  grant_end_goes =
+      subst (λ (x : Option Ending). ActGoes config w d (front.GrantEnd place before) (end_ask x place before)) (sym h.front_at.1)
+      (subst (λ (x : View). Becomes x (swapped w.under.pages (entry_frame frame) (entry_word frame) before 0)) (sym stepped)
+      (subst (λ (ps : List ℕ). Becomes (revoked_by (Some e) place w.front) ps) (sym (ap (λ (b : Bool). if b then pages else w.under.pages) tested))
+      (by_more (nat_lt (place + 1) (frames_of e.request)) refl)))

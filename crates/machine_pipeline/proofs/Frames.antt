@@ -23,7 +23,8 @@ use Rattle.blk_back.specs.Hands.{aborted, hands_at}
 use Rattle.split_model.specs.World.{World}
 use Rattle.machine_pipeline.proofs.Flow.{Flow, ending_at, word_at, telling_at, named_pages, worked, frames_of}
 use Rattle.machine_pipeline.proofs.Stations.{worked_kind}
-use Rattle.machine_pipeline.proofs.Holds.{Holds, FrontAt, IsToldAt, IsEnding, IsSubmitted, IsWork}
+use Rattle.machine_pipeline.proofs.Holds.{Holds, FrontAt, IsToldAt, IsEnding, IsSubmitted}
+use Rattle.machine_pipeline.proofs.HoldsWorks.{IsWork}
 use Rattle.machine_pipeline.proofs.Data.{pooled_at}
 use Rattle.machine_pipeline.proofs.Lists.{all_at}
 use Rattle.machine_pipeline.proofs.Hands.{IsQueued, queued, frames_apart, work_hand, hands_none, pages_none, mapped_few, nothing_aborted}

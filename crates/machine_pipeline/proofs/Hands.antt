@@ -20,7 +20,8 @@ use Rattle.blk_back.specs.View.{no_page}
 use Rattle.blk_back.specs.Hands.{aborted}
 use Rattle.blk_front.specs.Request.{frames_for, frame_at, IsShaped}
 use Rattle.machine_pipeline.proofs.Flow.{frames_of, uses, ending_uses}
-use Rattle.machine_pipeline.proofs.Holds.{AreQueued, IsPooled, ArePooled, IsHand, IsCopying, AtWork, IsWork, BackAt, PagesAt}
+use Rattle.machine_pipeline.proofs.Holds.{AreQueued, IsPooled, ArePooled, BackAt, PagesAt}
+use Rattle.machine_pipeline.proofs.HoldsWorks.{IsHand, IsCopying, AtWork, IsWork}
 use Rattle.machine_pipeline.proofs.Stations.{StandsAt, AreOpen, IsTaking, finishing, finishing_kind, kind_of, early_open, apart}
 use Rattle.machine_pipeline.proofs.Lists.{all_at, count_two, count_one, count_none, sum_one, sum_two, same_number, none_or_some}
 use Rattle.machine_pipeline.proofs.Series.{numbered}

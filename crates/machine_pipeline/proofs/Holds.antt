@@ -1,8 +1,7 @@
 -- What holds between both ends, memory, and the pipeline that they stand for, one subject a record.
-use Rattle.std.specs.Prelude.{◌≡◌, ◌≢◌, ℕ, ◌+◌, ◌-◌, ◌*◌, ◌/◌, ◌%◌, ◌^◌, ◌<◌, ◌≤◌, ◌==◌, ◌⊎◌, min, Bool, true, false, not, cond, List, [], ◌∷◌, length, take, drop, count_by, sum_by, replicate, slice_get, slice_index, slice_index_or, Option, Some, None, All, AllPairs, if◌then◌else◌, nat_lt}
+use Rattle.std.specs.Prelude.{◌≡◌, ◌≢◌, ℕ, ◌+◌, ◌-◌, ◌*◌, ◌/◌, ◌%◌, ◌^◌, ◌<◌, ◌≤◌, ◌==◌, ◌⊎◌, Bool, true, false, not, cond, List, [], ◌∷◌, length, take, count_by, sum_by, slice_get, slice_index, slice_index_or, Option, Some, None, All, AllPairs, if◌then◌else◌}
 use Rattle.blk_base.specs.declared.parts.Mapping.{Mapping}
 use Rattle.blk_base.specs.declared.parts.Mode.TheVariants.{ReadWrite}
-use Rattle.blk_layout.specs.declared.segment.Segment.{Segment}
 use Rattle.blk_base.specs.declared.operation.Status.TheVariants.{Okay}
 use Rattle.std.specs.List.{range_with_len}
 use Rattle.ring_words.specs.Ring.{Ring}
@@ -17,17 +16,14 @@ use Rattle.blk_front.specs.declared.request.Request.{Request}
 use Rattle.blk_front.specs.declared.request.Transfer.{Transfer}
 use Rattle.blk_front.specs.declared.request.Transfer.TheVariants as transfer
 use Rattle.blk_front.specs.Entry.{entry_of}
-use Rattle.blk_front.specs.Request.{is_write, is_moving, is_indirect, named_of, tag_of, operation_of, flags_at, frames_for, pages_for, page_references, segment_at, naming_words, words_in, frame_at, IsShaped}
+use Rattle.blk_front.specs.Request.{is_write, is_moving, is_indirect, named_of, tag_of, flags_at, frames_for, naming_words, words_in, frame_at, IsShaped}
 use Rattle.blk_front.specs.declared.stage.Ending.{Ending}
 use Rattle.blk_front.specs.declared.state.Offers.{Offers}
 use Rattle.blk_front.specs.declared.stage.FrontStage.{FrontStage}
 use Rattle.blk_front.specs.declared.stage.FrontStage.TheVariants as front
 use Rattle.blk_front.specs.View.{fresh_word, slot_frame, slot_word, next_request}
 use Rattle.blk_front.specs.Submit.{is_ready, is_connected, ending_of}
-use Rattle.back_jobs.specs.declared.stage.JobStage.{JobStage}
-use Rattle.back_jobs.specs.declared.stage.JobStage.TheVariants as job
-use Rattle.back_jobs.specs.Work.{Work, mode_of}
-use Rattle.back_jobs.specs.Jobs.{is_done, is_fresh_at, is_held, holds_barriers, holds_all}
+use Rattle.back_jobs.specs.Work.{Work}
 use Rattle.blk_back.specs.declared.stage.Reply.{Reply}
 use Rattle.blk_back.specs.declared.stage.BackStage.{BackStage}
 use Rattle.blk_back.specs.declared.stage.BackStage.TheVariants as back
@@ -39,9 +35,10 @@ use Rattle.blk_back.specs.Hands.{hands_at}
 use Rattle.blk_base.specs.Options.{Options}
 use Rattle.split_model.specs.World.{World}
 use Rattle.split_model.specs.Safe.{IsSafe}
-use Rattle.machine_pipeline.proofs.Flow.{Flow, wrapped, has_ring, named_pages, granted_pages, filled, named_frames, granted_frames, entered, ending_at, revoking_at, revoked, telling_at, frames_of, uses, ending_frames, ending_uses, is_front_arming, may_front_sleep, reply_at, reply_count, responded, is_back_arming, may_back_sleep, has_terms, is_bound_back, own_segments, data_word, span, is_own, own_value, is_issuing, is_fetching}
+use Rattle.machine_pipeline.proofs.Flow.{Flow, wrapped, has_ring, named_pages, granted_pages, filled, named_frames, granted_frames, entered, ending_at, revoking_at, revoked, telling_at, frames_of, uses, ending_frames, ending_uses, is_front_arming, may_front_sleep, reply_at, reply_count, responded, is_back_arming, may_back_sleep, has_terms, is_bound_back, data_word, span, is_own, own_value, is_issuing, is_fetching}
 use Rattle.machine_pipeline.proofs.Series.{IsSeries, IsAmong, HasNumber}
 use Rattle.machine_pipeline.proofs.Stations.{AreStations}
+use Rattle.machine_pipeline.proofs.HoldsWorks.{AreWorks, is_only_read}
 
 -- the indices of both ends are whole ones, wrapped, in the order of a request's way; the requests of the series were pushed, or wait (`waiting`); `unfinished` of them are left, and `ending` more have their grant ended
 pub record AreIndices (g : Flow) (front_ring back_ring : Ring) (front_seen back_seen number last waiting unfinished ending : ℕ) : Type 0 where
@@ -102,114 +99,6 @@ pub record ArePooled (pool : List Bool) (requests : List Request) (ending : Opti
   pub size : length pool ≡ 1000
   pub each : (f : ℕ) → f < 1000 → sum_by (uses (18 + f)) requests + ending_uses (18 + f) ending ≡ cond (slice_index_or pool f false) 1 0
   pub used : count_by (λ (b : Bool). b) pool ≡ sum_by frames_of requests + ending_frames ending
-
--- the last sector of its frame of this place
-abbrev pub last_in : Request → ℕ → ℕ
-last_in r place = min 7 (r.count - 1 - 8 * place)
-
--- a job is at the segment of this place: `ahead` is 1 where its sector wasn't moved yet, and 0 where it was
-pub record IsPlaced (writing : Bool) (left : List Segment) (inner count sector : ℕ) (read : List ℕ) (r : Request) (ahead : ℕ) : Type 0 where
-  pub place : ℕ
-  pub here : place < frames_for r.count
-  pub writes : writing ≡ is_write r.transfer
-  pub rest : left ≡ drop place (own_segments r)
-  pub within : inner ≤ last_in r place
-  pub moved : count + ahead ≡ 8 * place + inner + 1
-  pub disk : sector ≡ r.sector + count
-  pub words : length read ≡ 128
-
-abbrev pub IsInSegment : Work → Request → ℕ → Type 0
-IsInSegment t r ahead = IsPlaced t.writes t.rest t.within t.moved t.disk t.words r ahead
-
--- a job that moves a sector of a request next, or that read one and writes its words to the frame
-abbrev pub IsMoving : Work → Request → Type 0
-IsMoving t r = IsInSegment t r 1
-
-abbrev pub IsReturning : Work → Request → Type 0
-IsReturning t r = IsInSegment t r 0
-
--- the frame of this place is only read: one of a write's data, or an indirect page
-abbrev pub is_only_read : Request → ℕ → Bool
-is_only_read r place = if nat_lt place (frames_for r.count) then is_write r.transfer else true
-
--- a mapping of the request's frame of this place, for reading alone where it is only read
-pub record IsHand (m : Mapping) (r : Request) (place : ℕ) : Type 0 where
-  pub gref : m.gref ≡ frame_at r place + 6
-  pub mode : m.mode ≡ mode_of (is_only_read r place)
-
--- a job copies the segments of its request from this page, those of the pages before it are copied; it has moved nothing, and the sectors lie on its disk
-pub record AreCopied (writing : Bool) (count : ℕ) (copied : List Segment) (references : List ℕ) (done sector size : ℕ) (read : List ℕ) (r : Request) (page : ℕ) : Type 0 where
-  pub here : page < pages_for r.count
-  pub large : is_indirect r.count ≡ true
-  pub writes : writing ≡ is_write r.transfer
-  pub named : count ≡ frames_for r.count
-  pub rest : copied ≡ take (length copied) (own_segments r)
-  pub few : length copied ≤ frames_for r.count
-  pub pages : references ≡ drop page (page_references r)
-  pub moved : done ≡ 0
-  pub disk : sector ≡ r.sector
-  pub fits : r.sector + r.count ≤ size
-  pub words : length read ≡ 128
-
-abbrev pub IsCopying : Work → Request → (page : ℕ) → Type 0
-IsCopying t r page = AreCopied t.writes t.named t.rest t.pages t.moved t.disk t.size t.words r page
-
--- so many of this page's segments are left to be copied that one is
-pub record IsInPage (t : Work) (r : Request) (m : Mapping) : Type 0 where
-  pub page : ℕ
-  pub copies : IsCopying t r page
-  pub hand : IsHand m r (frames_for r.count + page)
-  pub from : 512 * page ≤ length t.rest
-  pub to : length t.rest < 512 * (page + 1)
-  pub left : length t.rest < frames_for r.count
-
--- the page is unmapped: its last segment was copied, or that of all
-pub record IsThroughPage (t : Work) (r : Request) (m : Mapping) : Type 0 where
-  pub page : ℕ
-  pub copies : IsCopying t r page
-  pub hand : IsHand m r (frames_for r.count + page)
-  pub through : (length t.rest ≡ frames_for r.count) ⊎ (length t.rest ≡ 512 * (page + 1))
-
--- the word that fills the sector that is moved next
-abbrev pub sector_word : Request → Work → ℕ
-sector_word r t = (tag_of r.transfer + t.moved) % 2 ^ 32
-
--- a job that flushes or trims has moved nothing
-abbrev pub AtWork : Request → Work → JobStage → Type 0
-AtWork r t job.MapPage = (page : ℕ) × IsCopying t r page × (length t.rest ≡ 512 * page) × (length t.rest < frames_for r.count)
-AtWork r t (job.PageReference m) = IsInPage t r m
-AtWork r t (job.PageSectors m gref) = (x : IsInPage t r m) × ((let s : Segment = segment_at r (length t.rest) in s.gref) ≡ gref)
-AtWork r t (job.UnmapPage m) = IsThroughPage t r m
-AtWork r t job.Map = (x : IsMoving t r) × (t.within ≡ 0)
-AtWork r t (job.ReadWord m j) = (x : IsMoving t r) × IsHand m r x.place × (j < 128) × (is_write r.transfer ≡ true) × ((i : ℕ) → i < j → slice_index t.words i ≡ sector_word r t)
-AtWork r t (job.DiskWrite m) = (x : IsMoving t r) × IsHand m r x.place × (is_write r.transfer ≡ true) × (t.words ≡ replicate 128 (sector_word r t))
-AtWork r t (job.DiskRead m) = (x : IsMoving t r) × IsHand m r x.place × (is_write r.transfer ≡ false)
-AtWork r t (job.WriteWord m j) = (x : IsReturning t r) × IsHand m r x.place × (j < 128) × (is_write r.transfer ≡ false)
-AtWork r t (job.Unmap m) = (x : IsReturning t r) × IsHand m r x.place × (t.within ≡ last_in r x.place)
-AtWork r t (job.Abort m) = (place : ℕ) × (place < frames_for r.count) × IsHand m r place
-AtWork r t job.Flush = (r.transfer ≡ transfer.Flush) × (t.moved ≡ 0)
-AtWork r t (job.Trim count) = (r.transfer ≡ transfer.Discard count) × (t.moved ≡ 0) × (t.disk ≡ r.sector)
-AtWork r t (job.Done status) = Unit {0}
-
--- a job that has begun its work waits for none that was fetched before it
-abbrev pub IsUnhindered : (before t : Work) → Type 0
-IsUnhindered before t = is_done t ≡ false → is_fresh_at t.stage t.moved ≡ false → is_held t (holds_barriers before) (holds_all before) ≡ false
-
--- the job of a fetched request, as far as its stage says: its number counts the entries of this epoch, and its id is the request's number
-pub record IsWork (submitted series : List Request) (fetched : ℕ) (t : Work) : Type 0 where
-  pub r : Request
-  pub known : slice_get submitted (t.id - 1) ≡ Some r
-  pub positive : 1 ≤ t.id
-  pub issued : slice_get series (t.number - 1) ≡ Some r
-  pub counted : 1 ≤ t.number
-  pub reached : t.number ≤ fetched
-  pub op : t.op ≡ operation_of r.transfer
-  pub at : AtWork r t t.stage
-
-pub record AreWorks (submitted series : List Request) (fetched : ℕ) (works : List Work) : Type 0 where
-  pub each : All (IsWork submitted series fetched) works
-  pub ascending : AllPairs (λ (t u : Work). t.id < u.id) works
-  pub clear : AllPairs IsUnhindered works
 
 -- a response that the front hasn't taken
 pub record IsReply (series : List Request) (fetched : ℕ) (rep : Reply) : Type 0 where

@@ -16,7 +16,7 @@ use Rattle.split_model.specs.World.{World}
 use Rattle.hypervisor.specs.Act.{IsGiven}
 use Rattle.pipeline_laws.specs.Pipeline.{Pipeline}
 use Rattle.machine_pipeline.proofs.Flow.{Flow}
-use Rattle.machine_pipeline.proofs.Holds.{IsReturning, last_in}
+use Rattle.machine_pipeline.proofs.HoldsWorks.{IsReturning, last_in}
 use Rattle.machine_pipeline.proofs.Turns.{GoesBy}
 use Rattle.machine_pipeline.proofs.Jobs.{with_job, hands_then}
 use Rattle.machine_pipeline.proofs.JobMoves.{JobGoesAt, stays, hands_step, sectors_left, further, next_sector_is, worked_further, at_further, IsDoing, placed_on, steps_on}

@@ -15,7 +15,8 @@ use Rattle.blk_front.specs.declared.stage.Ending.{Ending}
 use Rattle.blk_front.specs.declared.stage.FrontStage.{FrontStage}
 use Rattle.machine_pipeline.proofs.Flow.{frames_of, revoking_at}
 use Rattle.machine_pipeline.proofs.Series.{IsAmong}
-use Rattle.machine_pipeline.proofs.Holds.{IsGranted, AreEntries, is_only_read, mapped_at, flags_with}
+use Rattle.machine_pipeline.proofs.Holds.{IsGranted, AreEntries, mapped_at, flags_with}
+use Rattle.machine_pipeline.proofs.HoldsWorks.{is_only_read}
 use Rattle.machine_pipeline.proofs.Lists.{all_at, all_from}
 use Rattle.machine_pipeline.proofs.Kept.{SameEntry, written, other_word, other_entry}
 use Rattle.std.proofs.lemmas.Bool.{cases_eq}

@@ -32,7 +32,8 @@ use Rattle.split_model.specs.World.{World}
 use Rattle.machine_pipeline.proofs.Flow.{Flow, frames_of, worked}
 use Rattle.machine_pipeline.proofs.Segments.{data_frames, own_here, few_pages_for, page_here}
 use Rattle.machine_pipeline.proofs.Data.{pooled_at}
-use Rattle.machine_pipeline.proofs.Holds.{Holds, IsPooled, IsHand, IsCopying, is_only_read, AtWork, IsWork, IsGranted, AreMapped, mapped_at, flags_with, IsMoving}
+use Rattle.machine_pipeline.proofs.Holds.{Holds, IsPooled, IsGranted, AreMapped, mapped_at, flags_with}
+use Rattle.machine_pipeline.proofs.HoldsWorks.{IsHand, IsCopying, is_only_read, AtWork, IsWork, IsMoving}
 use Rattle.machine_pipeline.proofs.ReadBack.{ReadAt}
 use Rattle.machine_pipeline.proofs.Turns.{GoesBy, nothing, goes_by}
 use Rattle.machine_pipeline.proofs.Lists.{all_at, set_was}

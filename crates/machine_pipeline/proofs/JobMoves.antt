@@ -39,7 +39,8 @@ use Rattle.machine_pipeline.proofs.Data.{own_among, data_value}
 use Rattle.machine_pipeline.proofs.Segments.{own_here, word_place, data_place}
 use Rattle.machine_pipeline.proofs.ReadBack.{ReadAt}
 use Rattle.machine_pipeline.proofs.Series.{IsAmong, among_apart}
-use Rattle.machine_pipeline.proofs.Holds.{Holds, IsWork, IsPooled, IsHand, IsInSegment, IsMoving, IsReturning, AtWork, IsFilled, last_in, sector_word, IsPlaced, AreCopied}
+use Rattle.machine_pipeline.proofs.Holds.{Holds, IsPooled, IsFilled}
+use Rattle.machine_pipeline.proofs.HoldsWorks.{IsWork, IsHand, IsInSegment, IsMoving, IsReturning, AtWork, last_in, sector_word, IsPlaced, AreCopied}
 use Rattle.machine_pipeline.proofs.Turns.{GoesBy, nothing, no_move, goes_by, Stepped, does_step}
 use Rattle.machine_pipeline.proofs.Lists.{all_at, all_same}
 use Rattle.machine_pipeline.proofs.Mapped.{frame_live}

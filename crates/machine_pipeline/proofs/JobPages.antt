@@ -28,7 +28,8 @@ use Rattle.split_model.specs.World.{World}
 use Rattle.machine_pipeline.proofs.Flow.{Flow, frames_of, own_segments, is_own, worked}
 use Rattle.machine_pipeline.proofs.Segments.{frame_segment, segment_is, data_frames, own_here, own_sound, own_sectors, own_count}
 use Rattle.machine_pipeline.proofs.Data.{own_among, page_value}
-use Rattle.machine_pipeline.proofs.Holds.{IsCopying, IsInPage, AtWork, IsFilled, last_in, IsMoving}
+use Rattle.machine_pipeline.proofs.Holds.{IsFilled}
+use Rattle.machine_pipeline.proofs.HoldsWorks.{IsCopying, IsInPage, AtWork, last_in, IsMoving}
 use Rattle.machine_pipeline.proofs.Turns.{nothing}
 use Rattle.machine_pipeline.proofs.Lists.{all_at}
 use Rattle.machine_pipeline.proofs.Mapped.{frame_live}

@@ -29,7 +29,8 @@ use Rattle.pipeline_laws.specs.Allowed.{May, IsClear, is_unfetched, has_places, 
 use Rattle.pipeline_laws.specs.Disk.{DiskDoes}
 use Rattle.machine_pipeline.proofs.Flow.{Flow, worked, submitted_job}
 use Rattle.machine_pipeline.proofs.ReadBack.{IsReadBack, ReadAt, has_data_at}
-use Rattle.machine_pipeline.proofs.Holds.{Holds, IsWork, IsMoving}
+use Rattle.machine_pipeline.proofs.Holds.{Holds}
+use Rattle.machine_pipeline.proofs.HoldsWorks.{IsWork, IsMoving}
 use Rattle.machine_pipeline.proofs.Segments.{moves_sectors}
 use Rattle.machine_pipeline.proofs.Series.{before as index_before}
 use Rattle.machine_pipeline.proofs.Lists.{all_at, pair_at}

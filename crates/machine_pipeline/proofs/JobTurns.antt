@@ -27,7 +27,8 @@ use Rattle.hypervisor.specs.Act.{IsGiven}
 use Rattle.split_model.specs.Happening.{job_after, job_shows}
 use Rattle.machine_pipeline.proofs.Flow.{Flow, own_segments, frames_of}
 use Rattle.machine_pipeline.proofs.Segments.{data_frames, own_here, own_end, moves_sectors}
-use Rattle.machine_pipeline.proofs.Holds.{Holds, IsMoving, IsWork, IsUnhindered, AreWorks, IsReturning}
+use Rattle.machine_pipeline.proofs.Holds.{Holds}
+use Rattle.machine_pipeline.proofs.HoldsWorks.{IsMoving, IsWork, IsUnhindered, AreWorks, IsReturning}
 use Rattle.machine_pipeline.proofs.Removals.{taken_has}
 use Rattle.machine_pipeline.proofs.Turns.{GoesBy, nothing, does_step, JobGoes}
 use Rattle.machine_pipeline.proofs.Lists.{all_at, pair_at, found_at, any_at}

@@ -26,7 +26,8 @@ use Rattle.machine_pipeline.proofs.Growing.{push_was}
 use Rattle.machine_pipeline.proofs.ReadBack.{IsReadBack, IsReturned, ReadAt, AreReadBack, has_data_at, returned_on}
 use Rattle.machine_pipeline.proofs.ReadsKept.{read_at_kept, back_kept, back_on}
 use Rattle.machine_pipeline.proofs.Stations.{worked_open}
-use Rattle.machine_pipeline.proofs.Holds.{Holds, IsEnding, ArePooled, IsWork, AtWork, IsFilled, AreDataWords, AreEntries, AreMapped, last_in}
+use Rattle.machine_pipeline.proofs.Holds.{Holds, IsEnding, ArePooled, IsFilled, AreDataWords, AreEntries, AreMapped}
+use Rattle.machine_pipeline.proofs.HoldsWorks.{IsWork, AtWork, last_in}
 use Rattle.machine_pipeline.proofs.Turns.{nothing, goes_by}
 use Rattle.machine_pipeline.proofs.Lists.{all_at, all_from, place_of_any, set_was}
 use Rattle.machine_pipeline.proofs.Hands.{frames_apart, own_apart, ending_apart}

@@ -21,7 +21,8 @@ use Rattle.blk_front.specs.Submit.{is_ready}
 use Rattle.machine_pipeline.proofs.Flow.{Flow, ending_at, reply_at, is_issuing, is_fetching, worked, telling_at, reply_count}
 use Rattle.machine_pipeline.proofs.Stations.{AreStations}
 use Rattle.machine_pipeline.proofs.StationsBack.{job_stays}
-use Rattle.machine_pipeline.proofs.Holds.{Holds, BackAt, IsUnhindered, IsWork, AreWorks, IsFilled, AreDataWords, AreEntries, AreMapped}
+use Rattle.machine_pipeline.proofs.Holds.{Holds, BackAt, IsFilled, AreDataWords, AreEntries, AreMapped}
+use Rattle.machine_pipeline.proofs.HoldsWorks.{IsUnhindered, IsWork, AreWorks}
 use Rattle.machine_pipeline.proofs.Lists.{all_at, all_from, pair_at, pairs_from, set_was}
 use Rattle.machine_pipeline.proofs.Frames.{few_words, named_at}
 use Rattle.machine_pipeline.proofs.Slots.{same_slots}

@@ -3,6 +3,7 @@ pub mod Flow
 pub mod Series
 pub mod ReadBack
 pub mod Stations
+pub mod HoldsWorks
 pub mod Holds
 pub mod Slots
 pub mod Data

@@ -17,7 +17,8 @@ use Rattle.split_model.specs.Safe.{IsSafe}
 use Rattle.machine_pipeline.proofs.Flow.{Flow, wrapped, is_fetching, reply_at}
 use Rattle.machine_pipeline.proofs.Wrapped.{next_wrapped}
 use Rattle.machine_pipeline.proofs.Series.{among_apart}
-use Rattle.machine_pipeline.proofs.Holds.{AreRingWords, IsBackSleep, IsWork, Holds}
+use Rattle.machine_pipeline.proofs.Holds.{AreRingWords, IsBackSleep, Holds}
+use Rattle.machine_pipeline.proofs.HoldsWorks.{IsWork}
 use Rattle.machine_pipeline.proofs.Kept.{SameFrame, SameEntry, written, other_word, other_frame, same_entry}
 use Rattle.machine_pipeline.proofs.Issuing.{frames_elsewhere, entries_elsewhere, front_sleep_turned, next_here, fetching_pushed}
 use Rattle.machine_pipeline.proofs.Next.{waiting_few, IsNext}
@@ -31,6 +32,9 @@ use Rattle.machine_pipeline.proofs.StationsFront.{pushes}
 use Rattle.machine_pipeline.specs.Step.{IsSame}
 use Rattle.split_model.specs.Shown.{front_lines}
 use Rattle.machine_pipeline.proofs.Slots.{few_pages, index_written}
+
+one_less : (n : ℕ) → n ≡ n + 1 - 1
+one_less n = omega arith
 
 pub producer_goes : (config : Options) (w : World) (g : Flow) (d : Pipeline) → IsSafe w → Holds config w g d front.Producer w.back.stage → FrontGoes config w d front.Producer
 producer_goes config w g d safe h =
@@ -99,6 +103,3 @@ producer_goes config w g d safe h =
 
     entry_same : (gref : ℕ) → gref < 1024 → SameEntry w.under.pages new gref
     entry_same gref lt = same_entry w.under.pages new gref lt (elsewhere 0 (omega arith)) (elsewhere 1 (omega arith))
-
-    one_less : (n : ℕ) → n ≡ n + 1 - 1
-    one_less n = omega arith

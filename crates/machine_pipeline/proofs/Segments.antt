@@ -12,7 +12,8 @@ use Rattle.blk_front.specs.declared.request.Request.{Request}
 use Rattle.blk_front.specs.Request.{is_moving, is_indirect, pages_for, frame_at, frames_for, segment_in, segment_at, segments_of, page_reference, page_references, IsShaped}
 use Rattle.xen_pages.specs.Pages.{word_of}
 use Rattle.machine_pipeline.proofs.Flow.{frames_of, own_segments, data_word}
-use Rattle.machine_pipeline.proofs.Holds.{IsPooled, last_in}
+use Rattle.machine_pipeline.proofs.Holds.{IsPooled}
+use Rattle.machine_pipeline.proofs.HoldsWorks.{last_in}
 use Rattle.machine_pipeline.proofs.Lists.{all_at}
 use Rattle.std.proofs.lemmas.Bool.{cases_Bool}
 use Rattle.std.proofs.Math.Seq.{drop-cons}

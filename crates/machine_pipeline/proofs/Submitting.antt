@@ -16,7 +16,8 @@ use Rattle.blk_back.specs.declared.stage.Reply.{Reply}
 use Rattle.blk_back.specs.declared.stage.BackStage.{BackStage}
 use Rattle.blk_back.specs.declared.stage.BackStage.TheVariants as back
 use Rattle.machine_pipeline.proofs.Flow.{Flow, is_issuing}
-use Rattle.machine_pipeline.proofs.Holds.{AreSubmitted, AreIndices, FrontAt, AreSlots, IsFilled, IsGranted, AreEntries, AreWorks, AreReplies, IsReplying, BackAt, IsNextAt, IsEndingAt}
+use Rattle.machine_pipeline.proofs.Holds.{AreSubmitted, AreIndices, FrontAt, AreSlots, IsFilled, IsGranted, AreEntries, AreReplies, IsReplying, BackAt, IsNextAt, IsEndingAt}
+use Rattle.machine_pipeline.proofs.HoldsWorks.{AreWorks}
 use Rattle.ring_words.specs.Shape.{entries_of, Shape}
 use Rattle.machine_pipeline.proofs.Series.{IsSeries, among_was, numbered_grown}
 use Rattle.machine_pipeline.proofs.Lists.{get_append}

@@ -34,7 +34,8 @@ use Rattle.blk_back.specs.Ask.{response_word}
 use Rattle.split_model.specs.World.{World}
 use Rattle.split_model.specs.Shown.{front_lines}
 use Rattle.machine_pipeline.proofs.Flow.{uses, Flow, wrapped, ending_at, telling_at, is_issuing, is_fetching, is_front_arming, is_bound_back, reply_at, worked, frames_of}
-use Rattle.machine_pipeline.proofs.Holds.{Holds, FrontAt, IsOffered, ArePooled, IsSubmitted, IsEnding, IsReply, IsTaken, IsFilled, IsGranted, AreRevoked, PortsAt, IsWork, flags_with, AreIndices, slot_of}
+use Rattle.machine_pipeline.proofs.Holds.{Holds, FrontAt, IsOffered, ArePooled, IsSubmitted, IsEnding, IsReply, IsTaken, IsFilled, IsGranted, AreRevoked, PortsAt, flags_with, AreIndices, slot_of}
+use Rattle.machine_pipeline.proofs.HoldsWorks.{IsWork}
 use Rattle.machine_pipeline.proofs.Kept.{as_connected, awake_front}
 use Rattle.pipeline_laws.specs.Station.{Replied}
 use Rattle.machine_pipeline.proofs.Turns.{Goes, FrontGoes, Stepped, does_step, does_after, goes_by}

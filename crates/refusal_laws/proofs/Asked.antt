@@ -21,6 +21,7 @@ use Rattle.machine_pipeline.proofs.Ending.{pooled_free}
 use Rattle.machine_pipeline.proofs.Growing.{longer, push_was, pooled_more}
 use Rattle.machine_pipeline.proofs.Resumed.{IsPutBack, back_was, back_sum, back_many, back_pooled}
 use Rattle.machine_pipeline.proofs.Holding.{all_frames}
+use Rattle.vbd_laws.proofs.BreaksCounts.{same_number}
 
 -- a request of the front's is open in the list, under its number
 pub record IsAsked (asked : List DiskRequest) (r : Request) : Type 0 where
@@ -46,9 +47,6 @@ pub record AreAsked (asked : List DiskRequest) (requests : List Request) (ending
   pub held : sum_by frames_held asked ≡ sum_by frames_of requests + ending_frames ending
   pub pooled : ArePooled pool requests ending
 
-equal : (n m : ℕ) → n ≡ m → (n == m) ≡ true
-equal n m e = grind (arith, nat_tests)
-
 -- its submission needs the frames that it has
 its_frames : (asked : List DiskRequest) (r : Request) → (is : IsAsked asked r) → job_frames is.x.submission ≡ frames_of r
 its_frames asked r is = let shaped = is.shaped in ap job_frames is.submission ∙ (all_frames r.transfer r.sector r.count shaped.counted ∙ sym shaped.frames)
@@ -69,8 +67,8 @@ others asked n y r some apart is =
 -- none of the others has the ending one's number
 differs : (requests : List Request) (e : Ending) (i : ℕ) (r : Request) → ((n : ℕ) → count_by (λ (q : Request). q.number == n) requests + ending_number n (Some e) ≤ 1) → slice_get requests i ≡ Some r → r.number ≢ e.request.number
 differs requests e i r once at = λ same.
-    let one = count_one (λ (q : Request). q.number == e.request.number) requests i r at (equal r.number e.request.number same) in
-    let own : ◌≡◌ {A = ℕ} (cond (e.request.number == e.request.number) 1 0) 1 = ap (λ (b : Bool). cond b 1 0) (equal e.request.number e.request.number refl) in
+    let one = count_one (λ (q : Request). q.number == e.request.number) requests i r at (same_number r.number e.request.number same) in
+    let own : ◌≡◌ {A = ℕ} (cond (e.request.number == e.request.number) 1 0) 1 = ap (λ (b : Bool). cond b 1 0) (same_number e.request.number e.request.number refl) in
     let few : count_by (λ (q : Request). q.number == e.request.number) requests + cond (e.request.number == e.request.number) 1 0 ≤ 1 = once e.request.number in
     omega arith
 

@@ -1,6 +1,7 @@
 -- What the back's keys say of its disk, and its own state, go with its negotiation through each of its moves.
 use Rattle.std.proofs.Common.{inl, inr, ◌≡◌, ◌∙◌, ap, sym, subst, ℕ, ◌≤◌, Bool, true, false, true≢false, ◌&&◌, if◌then◌else◌, List, [], ◌∷◌, map, refl, arith, decimal}
 use Rattle.std.specs.Prelude.{Option, Some, None}
+use Rattle.std.proofs.Math.Bool.{and-false}
 use Rattle.line_text.proofs.Both.{both_true}
 use Rattle.blk_base.specs.declared.parts.Mapping.{Mapping}
 use Rattle.blk_base.specs.declared.parts.End.TheVariants as end
@@ -108,13 +109,9 @@ step_kept b v x here free = record { still = ap is_still here ∙ busy_still b f
 pub told_kept : (v : BackView) (x : BackAnswer) → says_closing v ≡ false → is_busy v.stage ≡ false → Kept v (step_of v x)
 told_kept v x on free = subst (Kept v) (sym (told_at v x on)) (step_kept v.stage v x refl free)
 
--- a stage in which it never says that it closes
-pub never : (b : Bool) → (b && false) ≡ false
-never true = refl
-never false = refl
-
+-- a stage in which it and-false says that it closes
 pub not_closing_at : (v : BackView) (b : BackBusStage) → v.stage ≡ b → ((own : BusState) → says_closing_at b own ≡ false) → says_closing v ≡ false
-not_closing_at v b here says = ap (λ (c : BackBusStage). v.unplugged && says_closing_at c v.state) here ∙ (ap (λ (c : Bool). v.unplugged && c) (says v.state) ∙ never v.unplugged)
+not_closing_at v b here says = ap (λ (c : BackBusStage). v.unplugged && says_closing_at c v.state) here ∙ (ap (λ (c : Bool). v.unplugged && c) (says v.state) ∙ and-false v.unplugged)
 
 pub asks_at : (v : BackView) (b : BackBusStage) → v.stage ≡ b → says_closing v ≡ false → ask_of v ≡ ask_at b v
 asks_at v b here on = ap (λ (c : Bool). if c then back_ask.SetState state.Closing else ask_at v.stage v) on ∙ ap (λ (c : BackBusStage). ask_at c v) here

@@ -28,8 +28,7 @@ use Rattle.xenbus_state.specs.FrontStep.{at, acted, after_feature, feature_step,
 use Rattle.negotiation_laws.proofs.Shown.{is_four}
 use Rattle.vbd_front.specs.Step.{settled_at, bus_told}
 use Rattle.vbd_model.specs.Fit.{FrontGoesWith}
-use Rattle.negotiation_laws.proofs.Choices.{either}
-use Rattle.vbd_laws.proofs.FitFrontBus.{due_cases}
+use Rattle.negotiation_laws.proofs.Choices.{either, due_cases, closed_cases}
 
 -- what the front has read of the disk is so
 abbrev pub IsDiskKnown : (r e : DiskFacts) → Type 0
@@ -91,13 +90,9 @@ module _ (late said : Type 0) (e : DiskFacts) where
   acted_knows action.CloseAndConnect v is = is (inr refl)
   acted_knows other v is = tt
 
-  feature_next : (k : Option BackKey) (r : DiskFacts) → DiskAt late said e (after_feature k) r
-  feature_next None r = tt
-  feature_next (Some k) r = tt
-
   feature_knows : (k : BackKey) (n : Option ℕ) (v : FrontView) → Knows (feature_step k n v)
   feature_knows k None v = tt
-  feature_knows k (Some n) v = feature_next (next_feature k) v.disk
+  feature_knows k (Some n) v = elim (next_feature k) as (λ next. DiskAt late said e (after_feature next) v.disk) [ None ↦ tt | Some key ↦ tt ]
 
   -- a fact is read
   sectors_known : (o : Option ℕ) (v : FrontView) → (o ≡ None) ⊎ (said × (o ≡ Some e.sectors)) → late → Knows (fact_step key.Sectors o v)
@@ -113,14 +108,6 @@ module _ (late said : Type 0) (e : DiskFacts) where
   info_known None v shows is = tt
   info_known (Some n) v shows is = (is.2, ap (λ (m : ℕ). m == 4) (same_Some n (if e.read_only then 4 else 0) (shows is.1)) ∙ is_four e.read_only)
 
-  published_knows : (k : Option FrontKey) (r : DiskFacts) → DiskAt late said e (after_published k) r
-  published_knows None r = tt
-  published_knows (Some k) r = tt
-
-  grants_know : (p : Option ℕ) (r : DiskFacts) → DiskAt late said e (after_grants p) r
-  grants_know None r = tt
-  grants_know (Some n) r = tt
-
   state_knows : (s : BusState) (r : DiskFacts) → DiskAt late said e (after_state s) r
   state_knows state.Closed r = tt
   state_knows s r = tt
@@ -129,9 +116,9 @@ module _ (late said : Type 0) (e : DiskFacts) where
   after_knows stage.Start v is = tt
   after_knows (stage.RingWord word) v is = either (λ (one : FrontBusStage). DiskAt late said e one v.disk) (word == 15) (stage.Grant 0) (stage.RingWord (word + 1)) tt tt
   after_knows (stage.Grant page) v is = either (λ (one : FrontBusStage). DiskAt late said e one v.disk) (nat_lt (page + 1) (pages_of v)) (stage.Grant (page + 1)) stage.NewPort tt tt
-  after_knows (stage.Publish k) v is = published_knows (next_published (ring_order v) k) v.disk
+  after_knows (stage.Publish k) v is = elim (next_published (ring_order v) k) as (λ next. DiskAt late said e (after_published next) v.disk) [ None ↦ tt | Some key ↦ tt ]
   after_knows (stage.EndGrant page) v is = either (λ (one : FrontBusStage). DiskAt late said e one v.disk) (nat_lt (page + 1) (pages_of v)) (stage.EndGrant (page + 1)) stage.EndOtherGrants tt tt
-  after_knows stage.EndOtherGrants v is = grants_know v.port v.disk
+  after_knows stage.EndOtherGrants v is = elim v.port as (λ port. DiskAt late said e (after_grants port) v.disk) [ None ↦ tt | Some port ↦ tt ]
   after_knows s v is = is
 
   step_knows : (s : FrontBusStage) (v : FrontView) (idle : Bool) (x : FrontAnswer) → ShowsAt late said e v idle s x → DiskAt late said e s v.disk → Knows (step_at s (at s v) idle x)
@@ -149,17 +136,8 @@ module _ (late said : Type 0) (e : DiskFacts) where
   step_knows s v idle answer.Done shows is = after_knows s (at s v) is
   step_knows s v idle x shows is = is
 
-  leaving_knows : (gone : Bool) (port : Option ℕ) (r : DiskFacts) → DiskAt late said e (leaving gone port) r
-  leaving_knows false port r = tt
-  leaving_knows true None r = tt
-  leaving_knows true (Some port) r = tt
-
-  closing_knows : (own : BusState) (v : FrontView) → DiskAt late said e (closing_stage own v) v.disk
-  closing_knows state.Closing v = leaving_knows v.gone v.port v.disk
-  closing_knows own v = tt
-
   pub due_knows : (v : FrontView) (idle : Bool) → Knows v → DiskAt late said e (due v idle) v.disk
-  due_knows v idle is = due_cases (λ (s : FrontBusStage). DiskAt late said e s v.disk) v idle is (λ here closing is_idle. closing_knows v.state v)
+  due_knows v idle is = due_cases (λ (s : FrontBusStage). DiskAt late said e s v.disk) v.stage v idle is tt tt tt
 
   shows_done : (s : FrontBusStage) (v : FrontView) (idle : Bool) → ShowsAt late said e v idle s answer.Done
   shows_done (stage.ReadFact key.Sectors) v idle = tt
@@ -174,11 +152,7 @@ module _ (late said : Type 0) (e : DiskFacts) where
   told_knows v idle x shows is = let u : FrontView = step_of v idle x in settled_knows (ask_of u idle) u idle (step_knows (due v idle) v idle x shows (due_knows v idle is))
 
   pub closed_knows : (v : FrontView) → Knows v → Knows (closed v)
-  closed_knows v is = by_test (v.closing || is_broken v.stage)
-    where
-      by_test : (b : Bool) → Knows (if b then v else record v { closing = true })
-      by_test true = is
-      by_test false = is
+  closed_knows v is = closed_cases Knows v is is
 
   -- a front that begins anew, or is closed or broken, has nothing to know
   pub suspended_knows : (v : FrontView) → Knows (suspended v)

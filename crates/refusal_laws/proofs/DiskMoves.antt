@@ -38,7 +38,8 @@ use Rattle.vbd_laws.proofs.KeysSet.{back_may_set, back_state_set, may_turn, back
 use Rattle.vbd_laws.proofs.MovesTurns.{back_asks}
 use Rattle.refusal_laws.proofs.DiskKeys.{Same, IsDiskSaid, IsWhole, FactsAt, is_telling, whole_of, facts_of, set_says, set_said, feature_whole, set_own, state_own, state_texts, state_whole}
 use Rattle.refusal_laws.proofs.DiskBack.{is_busy, busy_still, busy_quiet, told_kept, not_closing_at, asks_at, settled_kept}
-use Rattle.refusal_laws.proofs.DiskSaid.{GoesWith, IsLate, Next, Goes, still_next, asks_same, keys_then, wrote, state_settles, fact_settles, feature_settles, closing_settles, key_done, state_done}
+use Rattle.refusal_laws.proofs.DiskSaid.{GoesWith, IsLate, Next, Goes, still_next, asks_same, keys_then, wrote, state_settles, fact_settles, feature_settles, closing_settles, state_done}
+use Rattle.vbd_laws.proofs.FitBack.{told_done}
 
 module _ (f : Features) (e : DiskFacts) where
   feature_next : (d : Directory) (k : BackKey) → IsFeature k → IsWhole f e d → FactsAt f e d (after_feature (next_feature k))
@@ -125,7 +126,7 @@ module _ (w : World) (a : BackAct) (r : BackStage) (fit : IsFit w) (g : Goes w) 
       let facts = facts_at (stage.Publish k) here in
       let keys : keys_then w ≡ written d (path_under end.Back (back_name k)) (text_of (back_value v.features v.disk k)) =
       wrote w.rings.back.stage (back_asks w) _ _ d (ap back_key asks) (may_turn (back_key (ask_at (stage.Publish k) v)) w.rings.back.stage between (λ early. ap is_led (goes_at (stage.Publish k) here).1)) (back_may_set v k fit.offers) in
-      let told = became (stage.Publish k) here on (key_done k (back_value v.features v.disk k) a.answer (subst (λ (b : BackBusAsk). IsAnswer b a.answer) asks allowed)) in
+      let told = became (stage.Publish k) here on (told_done k (back_value v.features v.disk k) a.answer (subst (λ (b : BackBusAsk). IsAnswer b a.answer) asks allowed)) in
       let after : back_step.settled r (step_of v a.answer) ≡ at (after_feature (next_feature k)) v = ap (back_step.settled r) told ∙ feature_settles (next_feature k) r (at (after_feature (next_feature k)) v) refl in
       subst (λ (x : Directory). Next w x (back_step.settled r (step_of v a.answer))) (sym keys)
       (subst (λ (u : BackView). Next w (written d (path_under end.Back (back_name k)) (text_of (back_value v.features v.disk k))) u) (sym after) (record {
@@ -141,7 +142,7 @@ module _ (w : World) (a : BackAct) (r : BackStage) (fit : IsFit w) (g : Goes w) 
       let goes = goes_at (stage.PublishFact k) here in
       let keys : keys_then w ≡ written d (path_under end.Back (back_name k)) (text_of (back_value v.features v.disk k)) =
       wrote w.rings.back.stage (back_asks w) _ _ d (ap back_key asks) (may_turn (back_key (ask_at (stage.PublishFact k) v)) w.rings.back.stage between (λ early. absurd (true≢false (sym early ∙ fact_late k goes.2)))) (back_may_set v k fit.offers) in
-      let told = became (stage.PublishFact k) here on (key_done k (back_value v.features v.disk k) a.answer (subst (λ (b : BackBusAsk). IsAnswer b a.answer) asks allowed)) in
+      let told = became (stage.PublishFact k) here on (told_done k (back_value v.features v.disk k) a.answer (subst (λ (b : BackBusAsk). IsAnswer b a.answer) asks allowed)) in
       let after : back_step.settled r (step_of v a.answer) ≡ at (after_fact (next_fact k)) v = ap (back_step.settled r) told ∙ fact_settles (next_fact k) r (at (after_fact (next_fact k)) v) refl in
       subst (λ (x : Directory). Next w x (back_step.settled r (step_of v a.answer))) (sym keys)
       (subst (λ (u : BackView). Next w (written d (path_under end.Back (back_name k)) (text_of (back_value v.features v.disk k))) u) (sym after) (record {

@@ -30,6 +30,7 @@ use Rattle.vbd_model.specs.Happening.{back_key}
 use Rattle.vbd_laws.proofs.MovesTurns.{back_asks}
 use Rattle.refusal_laws.proofs.DiskKeys.{Same, same_keys, watched_same, IsDiskSaid, FactsAt, IsWhole, IsOwn, own_same, said_same, whole_same, whole_of, facts_of}
 use Rattle.refusal_laws.proofs.DiskBack.{is_busy, busy_quiet, Kept}
+use Rattle.vbd_laws.proofs.FitBack.{told_done}
 
 -- what the back's keys say goes with its negotiation
 pub record GoesWith (f : Features) (e : DiskFacts) (d : Directory) (v : BackView) : Type 0 where
@@ -114,10 +115,6 @@ pub closing_settles : (b : BackBusStage) (own : BusState) (r : BackStage) (u : B
 closing_settles stage.Rest state.Connected r u is = (refl, refl)
 closing_settles stage.ReadState state.Connected r u is = (refl, refl)
 closing_settles b own r u is = absurd (true≢false (sym is))
-
-pub key_done : (k : BackKey) (value : KeyValue) (x : BackAnswer) → IsAnswer (back_ask.SetKey k value) x → x ≡ answer.Done
-key_done k value answer.Done allowed = refl
-key_done k value x allowed = absurd allowed
 
 pub state_done : (s : BusState) (x : BackAnswer) → IsAnswer (back_ask.SetState s) x → x ≡ answer.Done
 state_done s answer.Done allowed = refl

@@ -2,6 +2,7 @@
 use Rattle.std.proofs.Common.{inl, inr, ◌≡◌, ◌∙◌, ap, sym, subst, ℕ, ◌≤◌, Bool, true, false, true≢false, ◌&&◌, if◌then◌else◌, List, [], ◌∷◌, map, refl, arith, decimal}
 use Rattle.std.specs.Prelude.{Option, Some, None, codes}
 use Rattle.std.proofs.lemmas.Fmt.{decimal_digit}
+use Rattle.std.proofs.Math.Bool.{and-false}
 use Rattle.line_text.proofs.Both.{both_true}
 use Rattle.blk_base.specs.Options.{Options}
 use Rattle.blk_base.specs.declared.parts.End.TheVariants as end
@@ -44,7 +45,7 @@ use Rattle.vbd_laws.proofs.FitFront.{all_enter}
 use Rattle.vbd_laws.proofs.MovesAttached.{all_halt, asks_layout, layout_asked, taken}
 use Rattle.vbd_laws.proofs.MovesTurns.{front_asks, front_cases, back_asks, back_says, back_learns, back_takes, back_cases, back_speaks, back_told, quiet_back, waits_quiet}
 use Rattle.refusal_laws.proofs.DiskKeys.{Same, same_keys, same_then, watched_same, written_same, front_same, IsDiskSaid, FactsAt, IsOwn, facts_same, own_same, said_same}
-use Rattle.refusal_laws.proofs.DiskBack.{is_busy, busy_still, Kept, settled_kept, told_kept, moved_kept, kept, not_closing_at, asks_at, never}
+use Rattle.refusal_laws.proofs.DiskBack.{is_busy, busy_still, Kept, settled_kept, told_kept, moved_kept, kept, not_closing_at, asks_at}
 use Rattle.refusal_laws.proofs.DiskSaid.{GoesWith, IsLate, Next, Goes, still_next, takes_same, keys_then}
 use Rattle.refusal_laws.proofs.DiskMoves.{says_next}
 

@@ -37,8 +37,8 @@ use Rattle.vbd_front.specs.Step.{settled_at, bus_told}
 use Rattle.vbd_model.specs.World.{World, frontend_of}
 use Rattle.vbd_model.specs.Happening.{front_turn, front_bus_after}
 use Rattle.vbd_model.specs.Fit.{SaysKey, IsServiceSaid, ReadsOffer, IsFit}
-use Rattle.negotiation_laws.proofs.Choices.{either}
-use Rattle.vbd_laws.proofs.FitFrontBus.{due_cases}
+use Rattle.negotiation_laws.proofs.Choices.{either, closed_cases}
+use Rattle.vbd_laws.proofs.FitFrontBus.{due_ways}
 use Rattle.vbd_laws.proofs.FitFrontMoves.{left_starts}
 use Rattle.vbd_laws.proofs.FitFrontReads.{followed_is, waited_is}
 use Rattle.vbd_laws.proofs.FitFront.{asks_cases}
@@ -107,33 +107,21 @@ module _ (f : Features) where
   acted_knows (action.Break word) v is = tt
   acted_knows other v is = is
 
-  fact_next : (k : Option BackKey) (r : Features) (port : Option ℕ) → (IsSome port → AreKnown r f) → KnowsAt f (after_fact k) r port
-  fact_next None r port is = is
-  fact_next (Some k) r port is = is
-
   fact_knows : (k : BackKey) (n : Option ℕ) (v : FrontView) → (IsSome v.port → AreKnown v.features f) → Knows (fact_step k n v)
   fact_knows k None v is = tt
-  fact_knows k (Some n) v is = fact_next (next_fact k) v.features v.port is
+  fact_knows k (Some n) v is = elim (next_fact k) as (λ next. KnowsAt f (after_fact next) v.features v.port) [ None ↦ is | Some key ↦ is ]
 
   written_knows : (s : BusState) (r : Features) (port : Option ℕ) → (IsSome port → AreKnown r f) → KnowsAt f (after_state s) r port
   written_knows state.Closed r port is = is
   written_knows s r port is = is
 
-  published_knows : (k : Option FrontKey) (r : Features) (port : Option ℕ) → (IsSome port → AreKnown r f) → KnowsAt f (after_published k) r port
-  published_knows None r port is = is
-  published_knows (Some k) r port is = is
-
-  grants_know : (p : Option ℕ) (r : Features) (port : Option ℕ) → (IsSome port → AreKnown r f) → KnowsAt f (after_grants p) r port
-  grants_know None r port is = is
-  grants_know (Some n) r port is = is
-
   after_knows : (d : FrontBusStage) (v : FrontView) → KnowsAt f d v.features v.port → KnowsAt f (after d v) v.features v.port
   after_knows stage.Start v is = is
   after_knows (stage.RingWord word) v is = either (λ (one : FrontBusStage). KnowsAt f one v.features v.port) (word == 15) (stage.Grant 0) (stage.RingWord (word + 1)) is is
   after_knows (stage.Grant page) v is = either (λ (one : FrontBusStage). KnowsAt f one v.features v.port) (nat_lt (page + 1) (pages_of v)) (stage.Grant (page + 1)) stage.NewPort is is
-  after_knows (stage.Publish k) v is = published_knows (next_published (ring_order v) k) v.features v.port is
+  after_knows (stage.Publish k) v is = elim (next_published (ring_order v) k) as (λ next. KnowsAt f (after_published next) v.features v.port) [ None ↦ is | Some key ↦ is ]
   after_knows (stage.EndGrant page) v is = either (λ (one : FrontBusStage). KnowsAt f one v.features v.port) (nat_lt (page + 1) (pages_of v)) (stage.EndGrant (page + 1)) stage.EndOtherGrants is is
-  after_knows stage.EndOtherGrants v is = grants_know v.port v.features v.port is
+  after_knows stage.EndOtherGrants v is = elim v.port as (λ port. KnowsAt f (after_grants port) v.features v.port) [ None ↦ is | Some port ↦ is ]
   after_knows d v is = is
 
   step_knows : (d : FrontBusStage) (v : FrontView) (idle : Bool) (x : FrontAnswer) → ReadsAt f d x → KnowsAt f d v.features v.port → Knows (step_at d (at d v) idle x)
@@ -147,18 +135,10 @@ module _ (f : Features) where
   step_knows d v idle answer.Done reads is = after_knows d (at d v) is
   step_knows d v idle x reads is = is
 
-  leaving_knows : (gone : Bool) (p : Option ℕ) (r : Features) (port : Option ℕ) → (IsSome port → AreKnown r f) → KnowsAt f (leaving gone p) r port
-  leaving_knows false p r port is = is
-  leaving_knows true None r port is = is
-  leaving_knows true (Some n) r port is = is
-
-  closing_knows : (own : BusState) (v : FrontView) → (IsSome v.port → AreKnown v.features f) → KnowsAt f (closing_stage own v) v.features v.port
-  closing_knows state.Closing v is = leaving_knows v.gone v.port v.features v.port is
-  closing_knows own v is = is
-
   pub due_knows : (v : FrontView) (idle : Bool) → Knows v → KnowsAt f (due v idle) v.features v.port
   due_knows v idle is =
-      due_cases (λ (d : FrontBusStage). KnowsAt f d v.features v.port) v idle is (λ here closing is_idle. closing_knows v.state v (subst (λ (d : FrontBusStage). KnowsAt f d v.features v.port) here is))
+      let rests : v.stage ≡ stage.Rest → KnowsAt f stage.Rest v.features v.port = λ here. subst (λ (d : FrontBusStage). KnowsAt f d v.features v.port) here is in
+      due_ways (λ (d : FrontBusStage). KnowsAt f d v.features v.port) v idle is (λ here closing. rests here) (λ here gone. rests here) (λ here gone. rests here)
 
   settled_knows : (b : FrontBusAsk) (u : FrontView) (idle : Bool) → Knows u → Knows (settled_at b idle u)
   settled_knows ask.EndOtherGrants u idle is = step_knows (due u idle) u idle answer.Done (reads_done f (due u idle)) (due_knows u idle is)
@@ -168,11 +148,7 @@ module _ (f : Features) where
   told_knows v idle x reads is = let u : FrontView = step_of v idle x in settled_knows (ask_of u idle) u idle (step_knows (due v idle) v idle x reads (due_knows v idle is))
 
   pub closed_knows : (v : FrontView) → Knows v → Knows (closed v)
-  closed_knows v is = by_test (v.closing || is_broken v.stage)
-    where
-      by_test : (b : Bool) → Knows (if b then v else record v { closing = true })
-      by_test true = is
-      by_test false = is
+  closed_knows v is = closed_cases Knows v is is
 
   pub suspended_knows : (v : FrontView) → Knows v → Knows (suspended v)
   suspended_knows v is = by_stage v.stage
@@ -183,17 +159,8 @@ module _ (f : Features) where
       by_stage d = λ some. absurd (true≢false (sym some))
 
 -- it reads a key where that is its stage
-never_closing : (gone : Bool) (port : Option ℕ) (k : BackKey) → leaving gone port ≡ stage.ReadFeature k → ⊥
-never_closing false port k e = cc
-never_closing true None k e = cc
-never_closing true (Some p) k e = cc
-
-not_closing : (own : BusState) (v : FrontView) (k : BackKey) → closing_stage own v ≡ stage.ReadFeature k → ⊥
-not_closing state.Closing v k e = never_closing v.gone v.port k e
-not_closing own v k e = cc
-
 due_feature : (v : FrontView) (idle : Bool) (k : BackKey) → due v idle ≡ stage.ReadFeature k → v.stage ≡ stage.ReadFeature k
-due_feature v idle = due_cases (λ (d : FrontBusStage). (k : BackKey) → d ≡ stage.ReadFeature k → v.stage ≡ stage.ReadFeature k) v idle (λ k e. e) (λ here closing is_idle k e. absurd (not_closing v.state v k e))
+due_feature v idle = due_ways (λ (d : FrontBusStage). (k : BackKey) → d ≡ stage.ReadFeature k → v.stage ≡ stage.ReadFeature k) v idle (λ k e. e) (λ here closing k e. absurd (cc)) (λ here gone k e. absurd (cc)) (λ here gone k e. absurd (cc))
 
 -- and that says what it said when all was said
 shown_is : (w : World) (k : BackKey) (text : Option (List ℕ)) → w.back.features.indirect ≤ 960 → IsServiceSaid (λ (j : BackKey). SaysKey w.rings.under.keys w.back.features w.back.disk j) → key_of w.rings.under.keys.keys (path_under end.Back (back_name k)) ≡ text

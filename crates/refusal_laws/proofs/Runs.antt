@@ -41,6 +41,7 @@ use Rattle.refusal_laws.proofs.Steps.{step_goes}
 use Rattle.refusal_laws.proofs.Enters.{IsMeant, enters_goes, suspends_goes}
 use Rattle.refusal_laws.proofs.Submits.{ruled, submit_goes}
 use Rattle.refusal_laws.proofs.Serves.{IsServing, AreServing}
+use Rattle.vbd_laws.proofs.StateLinesOver.{back_stays, job_stays}
 
 -- a line that answers no submission
 abbrev AreFree : List Line → Type 0
@@ -127,22 +128,14 @@ one_aside h line aside shows = record { seen_same = λ s. refl; asked_same = λ 
 aside_lines : (w : World) (h : Happening) → IsAside h → AreAside (lines_at w h)
 aside_lines w h aside = lines_are IsAsideLine w h (λ line shows. one_aside h line aside shows)
 
-back_front : (w : World) (act : Option BackAct) → (let x : World = back_after w act in x.front) ≡ w.front
-back_front w None = refl
-back_front w (Some a) = refl
-
-job_front : (w : World) (number : ℕ) (act : Option BackAct) → (let x : World = job_after w number act in x.front) ≡ w.front
-job_front w number None = refl
-job_front w number (Some a) = refl
-
 -- the front stays
 aside_front : (w : World) (h : Happening) → IsAside h → (let x : World = happens w h in x.front) ≡ w.front
 aside_front w FrontMoves aside = absurd aside
 aside_front w (FrontEnters s) aside = absurd aside
 aside_front w (Submits submission) aside = absurd aside
 aside_front w Suspends aside = absurd aside
-aside_front w BackMoves aside = back_front w (back_turn w Took)
-aside_front w (JobMoves number outcome) aside = job_front w number (job_turn w number outcome)
+aside_front w BackMoves aside = back_stays w (back_turn w Took)
+aside_front w (JobMoves number outcome) aside = job_stays w number (job_turn w number outcome)
 aside_front w h aside = refl
 
 -- a state that the front enters is one that may come

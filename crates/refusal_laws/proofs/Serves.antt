@@ -39,7 +39,6 @@ use Rattle.vbd_model.specs.World.{World, start_of, frontend_of, backend_of}
 use Rattle.vbd_model.specs.Happening.{Happening, FrontMoves, BackMoves, Closes, Suspends, front_turn, back_turn, entered_at, halted_at, back_bus_after, renewed_bus, front_bus, back_bus, does, happens, all_does}
 use Rattle.vbd_model.specs.Fit.{FrontGoesWith, IsFit}
 use Rattle.vbd_laws.proofs.FitBackKept.{Facts, facts_in, facts_stepped, facts_closed}
-use Rattle.vbd_laws.proofs.FitFrontBus.{due_cases}
 use Rattle.vbd_laws.proofs.FitFrontTerms.{Found, found, found_told}
 use Rattle.vbd_laws.proofs.ServedFront.{IsNewsAt, news_is}
 use Rattle.vbd_laws.proofs.ServedPossible.{Stands, stands_start, stands_on}
@@ -50,6 +49,7 @@ use Rattle.refusal_laws.proofs.DiskTold.{Then, then_on, IsSuspend, goes_start, s
 use Rattle.refusal_laws.proofs.DiskLearning.{IsDiskKnown, DiskAt, known_on, due_knows as due_knows_disk, closed_knows as closed_knows_disk, suspended_knows as suspended_knows_disk, over_knows as over_knows_disk, Knows as KnownBy}
 use Rattle.refusal_laws.proofs.DiskKnown.{Late, Said, KnowsDisk, front_knows as front_knows_disk}
 use Rattle.refusal_laws.proofs.Learning.{AreKnown, KnowsAt, Knows, due_knows, closed_knows, suspended_knows, front_knows}
+use Rattle.vbd_laws.proofs.NegotiatedAgreed.{connecting}
 
 -- a state that the front enters, where it is connected, says what the options have the back serve
 abbrev IsKnowing : Options → FrontState → Type 0
@@ -73,18 +73,6 @@ pub record Serves (config : Options) (w : World) : Type 0 where
   pub disk_known : KnowsDisk w w.front
 
 -- a front that is connected has a port, and was told that its state was written
-not_connecting : (gone : Bool) (port : Option ℕ) → leaving gone port ≡ stage.WriteState state.Connected → ⊥
-not_connecting false port e = cc
-not_connecting true None e = cc
-not_connecting true (Some p) e = cc
-
-closes_not : (own : BusState) (v : FrontView) → closing_stage own v ≡ stage.WriteState state.Connected → ⊥
-closes_not state.Closing v e = not_connecting v.gone v.port e
-closes_not own v e = cc
-
-due_connects : (v : FrontView) (idle : Bool) → due v idle ≡ stage.WriteState state.Connected → v.stage ≡ stage.WriteState state.Connected
-due_connects v idle = due_cases (λ (d : FrontBusStage). d ≡ stage.WriteState state.Connected → v.stage ≡ stage.WriteState state.Connected) v idle (λ e. e) (λ here closing is_idle e. absurd (closes_not v.state v e))
-
 ready_done : (v : FrontView) (idle : Bool) (x : FrontAnswer) → news_at (stage.WriteState state.Connected) v idle x ≡ Some news.Ready → x ≡ answer.Done
 ready_done v idle answer.Done e = refl
 ready_done v idle x e = absurd (none-some news.Ready e)
@@ -119,7 +107,7 @@ module _ (config : Options) (w : World) (h : Serves config w) where
       disk = subst (λ (d : FrontBusStage). DiskAt (Late w) (Said w) w.back.disk d w.front.disk) here (due_knows_disk (Late w) (Said w) w.back.disk w.front idle h.disk_known)
 
       goes : FrontGoesWith (stage.WriteState state.Connected) w.front w.rings.front.stage
-      goes = subst (λ (d : FrontBusStage). FrontGoesWith d w.front w.rings.front.stage) (due_connects w.front idle here) fit.front
+      goes = subst (λ (d : FrontBusStage). FrontGoesWith d w.front w.rings.front.stage) (connecting w.front idle here) fit.front
 
       known : AreKnown w.front.features w.back.features
       known = subst (λ (d : FrontBusStage). KnowsAt w.back.features d w.front.features w.front.port) here (due_knows w.back.features w.front idle h.knows) goes.2

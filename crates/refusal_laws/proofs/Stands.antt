@@ -143,8 +143,4 @@ told_end other sector count answer = refl
 
 -- and its last sector does
 pub next_end : (sector count index : ℕ) → is_finished (next_stage (submitted_job transfer.Read sector count) index) ≡ not (nat_lt (index + 1) count)
-next_end sector count index = by_test (nat_lt (index + 1) count)
-  where
-    by_test : (b : Bool) → is_finished (if b then Telling (index + 1) else Finished) ≡ not b
-    by_test true = refl
-    by_test false = refl
+next_end sector count index = elim (nat_lt (index + 1) count) as (λ b. is_finished (if b then Telling (index + 1) else Finished) ≡ not b) [ true ↦ refl | false ↦ refl ]

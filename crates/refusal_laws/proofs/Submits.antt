@@ -2,6 +2,7 @@
 use Rattle.std.proofs.Common.{◌≡◌, ℕ, ◌+◌, ◌≤◌, ◌==◌, ◌&&◌, ◌||◌, Bool, true, false, true≢false, not, if◌then◌else◌, List, [], ◌∷◌, ◌++◌, length, refl, ap, sym, ◌∙◌, subst}
 use Rattle.std.specs.Prelude.{Option, Some, None, Result, Ok, Err, fold, nat_lt, nat_le}
 use Rattle.std.proofs.lemmas.Option.{none-some, same_Some}
+use Rattle.std.proofs.lemmas.Bool.{not-false}
 use Rattle.blk_base.specs.Options.{Options}
 use Rattle.blk_base.specs.declared.config.Submission.{Submission}
 use Rattle.blk_base.specs.declared.config.Submission.TheVariants as submissions
@@ -98,10 +99,6 @@ module _ (P : Result ℕ Refusal × View → Type 0) (v : View) (submission : Su
   either true y z p q = p
   either false y z p q = q refl
 
-  is_true : (b : Bool) → not b ≡ false → b ≡ true
-  is_true true e = refl
-  is_true false e = absurd (true≢false e)
-
   with_frames : (wish : Wish) → is_ready v.stage ≡ true → wish_of v.offers submission ≡ Some wish → nat_lt (most_segments v.offers wish.transfer) (frames_for wish.count) ≡ false → (o : Option (List ℕ × List Bool)) → taking (frames_taken wish.count) v.pool [] ≡ o → P (submit_with v wish o)
   with_frames wish ready asks short None e = refused refusal.Buffers
   with_frames wish ready asks short (Some taken) e = accepts wish taken ready asks short e
@@ -119,7 +116,7 @@ module _ (P : Result ℕ Refusal × View → Type 0) (v : View) (submission : Su
   submit_parts =
       either (v.last == 4294967295) (Err refusal.Spent, v) _ (refused refusal.Spent) (λ unspent.
       either v.closing (Err refusal.Closing, v) _ (refused refusal.Closing) (λ stays.
-      either (not (is_ready v.stage)) (Err refusal.NotReady, v) _ (refused refusal.NotReady) (λ ready. with_wish (is_true (is_ready v.stage) ready) (wish_of v.offers submission) refl)))
+      either (not (is_ready v.stage)) (Err refusal.NotReady, v) _ (refused refusal.NotReady) (λ ready. with_wish (not-false (is_ready v.stage) ready) (wish_of v.offers submission) refl)))
 
 -- the wish is the submission's
 abbrev IsOf : Offers → Submission → Wish → Type 0

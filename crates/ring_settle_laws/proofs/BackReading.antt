@@ -35,6 +35,7 @@ use Rattle.machine_pipeline.proofs.Flow.{wrapped}
 use Rattle.machine_pipeline.proofs.Turns.{back_turn_at}
 use Rattle.ring_settle_laws.specs.Left.{back_sends, front_saw, back_saw, marks_left}
 use Rattle.ring_settle_laws.proofs.BackSums.{beside, PaysTo, LowersTo, FallsTo, Pays, Falls, falls, pays_by, same, of_act, taken_branch, other_branch, waiting, event_pays}
+use Rattle.front_laws.proofs.Issued.{few_words}
 
 -- a job that leaves the list takes what is left to it along
 removed_left : (works : List Work) (place : ℕ) → all_left (remove works place) ≤ all_left works
@@ -107,10 +108,6 @@ module _ (w : World) (before after : ℕ) (less : after ≤ before) where
       (looked_pays stage.LookAgain word (record w.back { ring = record w.back.ring { seen = word; asleep = true }; stage = stage.Loop }) within reaches refl (λ none. sleep_pays word reaches)))
 
   -- an entry that was seen is begun to be copied: this lowers what is left to the back by itself
-  few_words : (abi : Abi) → entry_words_of abi ≤ 28
-  few_words X64 = omega arith
-  few_words X32 = omega arith
-
   begins : (awake words d jobs s m r r' k : ℕ) → awake ≡ 4 → words ≤ 28 → 0 < d → r' ≤ r → (words - 1) + 4 + 35 * (d - 1) + 7 * (jobs + 1) + m + r' + 1 ≤ awake + (35 * d + 7 * jobs) + m + r + k
   begins awake words d jobs s m r r' k up few some requests = omega arith
 

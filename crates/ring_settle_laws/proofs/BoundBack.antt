@@ -14,28 +14,21 @@ use Rattle.blk_back.specs.View.{View}
 use Rattle.back_laws.specs.BackLeft.{left_at, awake_left, owed, rest}
 use Rattle.machine_pipeline.proofs.Lists.{all_at, pairs_head, pairs_tail, sum_none}
 use Rattle.ring_settle_laws.specs.Left.{back_sends}
-
-awake_few : (asleep : Bool) → awake_left asleep ≤ 4
-awake_few true = omega arith
-awake_few false = omega arith
-
-words_few : (abi : Abi) → entry_words_of abi ≤ 28
-words_few X64 = omega arith
-words_few X32 = omega arith
+use Rattle.front_laws.proofs.Issued.{few_words}
 
 pub sends_few : (s : BackStage) → back_sends s ≤ 5
 sends_few (stage.ProducerFence old) = omega arith
 sends_few s = omega arith
 
 rest_few : (v : View) → rest v ≤ 4 + owed v
-rest_few v = omega (arith, awake_few v.ring.asleep)
+rest_few v = omega (arith, (elim v.ring.asleep as (λ asleep. awake_left asleep ≤ 4) [ true ↦ omega arith | false ↦ omega arith ]))
 
 -- the stage adds no more than 24 pages take, and an entry
 pub left_few : (s : BackStage) (v : View) → (s ≡ stage.MapRing → length v.grefs ≤ 16) → length v.pages ≤ 24 → left_at s v ≤ 41 + owed v
 left_few stage.MapRing v terms held = omega (arith, terms refl, rest_few v)
 left_few stage.Bind v terms held = omega (arith, rest_few v)
 left_few stage.Loop v terms held = omega (arith, rest_few v)
-left_few (stage.Fetch k) v terms held = omega (arith, words_few v.shape.abi)
+left_few (stage.Fetch k) v terms held = omega (arith, few_words v.shape.abi)
 left_few (stage.ReplyHigh r) v terms held = omega (arith, rest_few v)
 left_few (stage.ReplyLast r) v terms held = omega (arith, rest_few v)
 left_few (stage.Producer r) v terms held = omega (arith, rest_few v)

@@ -16,14 +16,11 @@ use Rattle.front_laws.specs.Left.{left_at, awake_left, end_left, issue_left, gra
 use Rattle.machine_pipeline.proofs.Lists.{sum_one}
 use Rattle.machine_pipeline.proofs.Slots.{few_pages}
 use Rattle.ring_settle_laws.specs.Left.{front_sends}
+use Rattle.front_laws.proofs.Issued.{few_words}
 
 -- a request has no more frames than twice its sectors
 frames_few : (r : Request) → IsShaped r → length r.frames.items ≤ 2 * r.count
-frames_few r shaped = omega (arith, shaped.frames, pages_few (is_indirect r.count))
-  where
-    pages_few : (b : Bool) → (if b then (frames_for r.count + 511) / 512 else 0) ≤ frames_for r.count
-    pages_few true = omega arith
-    pages_few false = omega arith
+frames_few r shaped = omega (arith, shaped.frames, (elim (is_indirect r.count) as (λ b. (if b then (frames_for r.count + 511) / 512 else 0) ≤ frames_for r.count) [ true ↦ omega arith | false ↦ omega arith ]))
 
 pub end_few : (r : Request) → IsShaped r → end_left r ≤ 132 * r.count
 end_few r shaped = omega (arith, frames_few r shaped)
@@ -34,10 +31,6 @@ issue_few r shaped = omega (arith, frames_few r shaped)
 awake_few : (asleep : Bool) → awake_left asleep ≤ 4
 awake_few true = omega arith
 awake_few false = omega arith
-
-words_few : (abi : Abi) → entry_words_of abi ≤ 28
-words_few X64 = omega arith
-words_few X32 = omega arith
 
 pub sends_few : (s : FrontStage) → front_sends s ≤ 5
 sends_few (stage.ProducerFence old) = omega arith
@@ -71,7 +64,7 @@ left_few (stage.Pages n) v rest last fits ends narrow = omega (arith, next_few v
 left_few (stage.GrantFrame place) v rest last fits ends narrow = omega (arith, next_few v (λ r. 3 * (length r.frames.items - place) + 32) (λ r. omega arith), (rest_few 1 v rest fits).0)
 left_few (stage.GrantFence place) v rest last fits ends narrow = omega (arith, next_few v (λ r. 3 * (length r.frames.items - place) + 31) (λ r. omega arith), (rest_few 1 v rest fits).0)
 left_few (stage.GrantFlags place) v rest last fits ends narrow = omega (arith, next_few v (λ r. 3 * (length r.frames.items - place) + 30) (λ r. omega arith), (rest_few 1 v rest fits).0)
-left_few (stage.Slot k) v rest last fits ends narrow = omega (arith, words_few v.shape.abi, (rest_few 1 v rest fits).0)
+left_few (stage.Slot k) v rest last fits ends narrow = omega (arith, few_words v.shape.abi, (rest_few 1 v rest fits).0)
 left_few stage.Producer v rest last fits ends narrow = omega (arith, (rest_few 1 v rest fits).0)
 left_few (stage.ProducerFence old) v rest last fits ends narrow = omega (arith, (rest_few 0 v rest fits).0)
 left_few (stage.RequestEvent old) v rest last fits ends narrow = omega (arith, (rest_few 0 v rest fits).0)

@@ -21,7 +21,8 @@ use Rattle.machine_pipeline.proofs.Series.{numbered}
 use Rattle.machine_pipeline.proofs.Stations.{finishing}
 use Rattle.machine_pipeline.proofs.Frames.{work_queued}
 use Rattle.machine_pipeline.proofs.Lists.{all_at}
-use Rattle.machine_pipeline.proofs.Holds.{Holds, IsWork}
+use Rattle.machine_pipeline.proofs.Holds.{Holds}
+use Rattle.machine_pipeline.proofs.HoldsWorks.{IsWork}
 use Rattle.ring_settle_laws.specs.Stations.{station_left, request_left, requests_left, job_price, reply_price, push_price}
 use Rattle.ring_settle_laws.proofs.JobBounds.{job_bounded}
 use Rattle.ring_settle_laws.proofs.BoundSums.{at_number, at_one, at_places, by_keys, of_sectors}

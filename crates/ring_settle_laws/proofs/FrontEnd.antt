@@ -50,10 +50,6 @@ pub record IsBetween (cons prod shown word : ℕ) : Type 0 where
   pub honest : distance_of cons word ≤ distance_of cons prod
   pub adds : distance_of cons word + distance_of word shown ≡ distance_of cons shown
 
-awake_few : (b : Bool) → awake_left b ≤ 4
-awake_few true = omega arith
-awake_few false = omega arith
-
 ahead : (a b : ℕ) → a < 2 ^ 32 → b < 2 ^ 32 → (b == a) ≡ false → 1 ≤ distance_of a b
 ahead a b small low e =
     let other : (b < a) ⊎ (a < b) = grind (arith, nat_tests) in
@@ -72,7 +68,7 @@ module _ (shown saw : ℕ) (v : View) (word : ℕ) (small : v.ring.indices.cons 
       by_new true e = none (grind (arith, nat_tests))
       by_new false e =
           let falls = shown_falls (awake_left v.ring.asleep) (distance_of v.ring.indices.cons word) (prices v) (distance_of word shown) (distance_of v.ring.indices.cons shown) (distance_of saw v.ring.indices.prod) n
-          (awake_few v.ring.asleep) (ahead v.ring.indices.cons word small is.low e) is.adds least in
+          (elim v.ring.asleep as (λ b. awake_left b ≤ 4) [ true ↦ omega arith | false ↦ omega arith ]) (ahead v.ring.indices.cons word small is.low e) is.adds least in
           omega (arith, falls)
 
       by_broken : (b : Bool) → nat_lt (distance_of v.ring.indices.cons v.ring.indices.prod) (distance_of v.ring.indices.cons word) ≡ b

@@ -48,11 +48,7 @@ wait_pays h a false (Some path) is e = is_act h ask.Wait _ a (omega arith) e
 wait_pays h a false None is e = absurd (none-some a e)
 
 set_mark : (c : ChannelState) → marks_left (sent c end.Front) ≤ marks_left c + 5
-set_mark c = by_bound (is_bound c)
-  where
-    by_bound : (b : Bool) → cond c.front_pending 5 0 + cond (if b then true else c.back_pending) 5 0 ≤ cond c.front_pending 5 0 + cond c.back_pending 5 0 + 5
-    by_bound true = omega arith
-    by_bound false = omega arith
+set_mark c = elim (is_bound c) as (λ b. cond c.front_pending 5 0 + cond (if b then true else c.back_pending) 5 0 ≤ cond c.front_pending 5 0 + cond c.back_pending 5 0 + 5) [ true ↦ omega arith | false ↦ omega arith ]
 
 set_pays : (h : Hypervisor) (path text : List ℕ) (a : FrontAct) (own : Bool)
     → (if own then Some (record { answer = answer.Done; under = key_set h path text; shown = moves.SetKey mover.Front path text }) else None) ≡ Some a → Pays h (ask.SetKey path text) a
@@ -80,45 +76,21 @@ loop_mark v None =
     either_mark (v.ring.asleep || is_through v) ask.Wait _ refl
     (either_mark (responses_of v.ring.indices v.ring.seen == 0) (ask.Read 2 2) (ask.Read (slot_frame v.shape v.ring.indices.cons 0) (slot_word v.shape v.ring.indices.cons 0)) refl refl)
 
--- the asks of a request that may be there or not
-data_mark : (o : Option Request) (n : ℕ) → asked_mark (data_ask o n) ≡ 0
-data_mark None n = refl
-data_mark (Some r) n = refl
-
-page_mark : (o : Option Request) (n : ℕ) → asked_mark (page_ask o n) ≡ 0
-page_mark None n = refl
-page_mark (Some r) n = refl
-
-name_mark : (o : Option Request) (place : ℕ) → asked_mark (name_ask o place) ≡ 0
-name_mark None place = refl
-name_mark (Some r) place = refl
-
-grant_mark : (o : Option Request) (place : ℕ) → asked_mark (grant_ask o place) ≡ 0
-grant_mark None place = refl
-grant_mark (Some r) place = refl
-
-revoke_mark : (o : Option Ending) (place : ℕ) → asked_mark (revoke_ask o place) ≡ 0
-revoke_mark None place = refl
-revoke_mark (Some e) place = refl
-
-end_mark : (o : Option Ending) (place before : ℕ) → asked_mark (end_ask o place before) ≡ 0
-end_mark None place before = refl
-end_mark (Some e) place before = refl
-
-read_mark : (o : Option Ending) (n : ℕ) → asked_mark (read_ask o n) ≡ 0
-read_mark None n = refl
-read_mark (Some e) n = refl
+-- an ask of a request that may be there or not
+option_mark : {A : Type 0} (asks : Option A → FrontAsk) → asked_mark (asks None) ≡ 0 → ((x : A) → asked_mark (asks (Some x)) ≡ 0) → (o : Option A) → asked_mark (asks o) ≡ 0
+option_mark asks none some None = none
+option_mark asks none some (Some x) = some x
 
 stage_mark : (s : FrontStage) (v : View) → asked_mark (ask_at s v) ≡ sent_at s
 stage_mark stage.Loop v = loop_mark v (next_request v)
-stage_mark (stage.Data n) v = data_mark (next_request v) n
-stage_mark (stage.Pages n) v = page_mark (next_request v) n
-stage_mark (stage.GrantFrame place) v = name_mark (next_request v) place
-stage_mark (stage.GrantFlags place) v = grant_mark (next_request v) place
-stage_mark (stage.GrantRead place) v = revoke_mark v.ending place
-stage_mark (stage.GrantEnd place before) v = end_mark v.ending place before
-stage_mark (stage.ReadData n) v = read_mark v.ending n
-stage_mark (stage.LeftData n) v = read_mark v.ending n
+stage_mark (stage.Data n) v = option_mark (λ o. data_ask o n) refl (λ x. refl) (next_request v)
+stage_mark (stage.Pages n) v = option_mark (λ o. page_ask o n) refl (λ x. refl) (next_request v)
+stage_mark (stage.GrantFrame place) v = option_mark (λ o. name_ask o place) refl (λ x. refl) (next_request v)
+stage_mark (stage.GrantFlags place) v = option_mark (λ o. grant_ask o place) refl (λ x. refl) (next_request v)
+stage_mark (stage.GrantRead place) v = option_mark (λ o. revoke_ask o place) refl (λ x. refl) v.ending
+stage_mark (stage.GrantEnd place before) v = option_mark (λ o. end_ask o place before) refl (λ x. refl) v.ending
+stage_mark (stage.ReadData n) v = option_mark (λ o. read_ask o n) refl (λ x. refl) v.ending
+stage_mark (stage.LeftData n) v = option_mark (λ o. read_ask o n) refl (λ x. refl) v.ending
 stage_mark s v = refl
 
 pub marks_fall : (h : Hypervisor) (v : View) (a : FrontAct) → front_act h (ask_of v) ≡ Some a → marks_left a.under.channels + taken_mark a.answer ≤ marks_left h.channels + sent_at v.stage

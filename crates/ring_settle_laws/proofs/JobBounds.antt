@@ -14,7 +14,7 @@ use Rattle.back_jobs.specs.Work.{Work, rest_of, last_of}
 use Rattle.back_laws.specs.JobLeft.{left_at, segment_left, segments_left, after_sector, after_page, begun_left}
 use Rattle.machine_pipeline.proofs.Flow.{own_segments}
 use Rattle.machine_pipeline.proofs.Segments.{own_here, own_sound, own_count, frame_segment}
-use Rattle.machine_pipeline.proofs.Holds.{AtWork, IsCopying, IsInSegment}
+use Rattle.machine_pipeline.proofs.HoldsWorks.{AtWork, IsCopying, IsInSegment}
 
 -- segments that pass the test have eight sectors at most
 segment_few : (s : Segment) → fails_test s ≡ false → segment_left s ≤ 1034

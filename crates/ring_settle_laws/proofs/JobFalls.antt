@@ -16,7 +16,7 @@ use Rattle.back_laws.proofs.JobLeft.{Lowers, lowers, next_left, map_lowers, read
 use Rattle.machine_pipeline.proofs.Flow.{own_segments}
 use Rattle.machine_pipeline.proofs.Segments.{own_here, own_end, frame_segment}
 use Rattle.machine_pipeline.proofs.JobMaps.{only_page}
-use Rattle.machine_pipeline.proofs.Holds.{AtWork, IsInPage, IsHand, IsInSegment, IsReturning}
+use Rattle.machine_pipeline.proofs.HoldsWorks.{AtWork, IsInPage, IsHand, IsInSegment, IsReturning}
 
 -- The segments of an indirect request are copied: there are as many to copy as it has frames, and at most 960.
 few_named : (r : Request) → IsShaped r → frames_for r.count ≤ 960

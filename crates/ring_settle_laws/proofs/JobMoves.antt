@@ -27,7 +27,8 @@ use Rattle.pipeline_laws.specs.Pipeline.{Pipeline, after_steps}
 use Rattle.machine_pipeline.specs.Plain.{IsPlain}
 use Rattle.machine_pipeline.proofs.Lists.{all_at, found_at, sum_set}
 use Rattle.machine_pipeline.proofs.Flow.{Flow}
-use Rattle.machine_pipeline.proofs.Holds.{Holds, IsWork}
+use Rattle.machine_pipeline.proofs.Holds.{Holds}
+use Rattle.machine_pipeline.proofs.HoldsWorks.{IsWork}
 use Rattle.machine_pipeline.proofs.Over.{IsKept}
 use Rattle.back_laws.specs.BackLeft as back_left
 use Rattle.back_laws.specs.JobLeft.{left_of, all_left}

@@ -32,7 +32,8 @@ use Rattle.vbd_laws.specs.Moves.{IsBackMove}
 use Rattle.vbd_laws.proofs.MovesTurns.{back_asks, back_says, back_learns, back_takes, back_cases}
 use Rattle.vbd_laws.proofs.MovesBack.{back_waits, back_move_is}
 use Rattle.vbd_laws.proofs.NegotiatedBack.{with_back}
-use Rattle.vbd_laws.proofs.ServedHonest.{Honest, Going, unrefused}
+use Rattle.vbd_laws.proofs.ServedHonest.{Honest, Going}
+use Rattle.vbd_laws.proofs.ServedGiven.{unrefused}
 use Rattle.ring_settle_laws.specs.Left.{ring_left}
 use Rattle.ring_settle_laws.proofs.BackMoves.{back_falls}
 use Rattle.ring_settle_laws.proofs.BackTerms.{attaches_left}

@@ -39,31 +39,20 @@ none_fired (path ∷ later) none = absurd (none-some path (sym none))
 nothing_to_take : (pending : Bool) (w : Watches) → pending ≡ false → next_watch w ≡ None → (pending || has_pending w) ≡ false
 nothing_to_take pending w none unfired = rw none (none_fired w.pending unfired)
 
-front_waits : (h : Hypervisor) → front_act h front_ask.Wait ≡ None → has_to_take h end.Front ≡ false
-front_waits h none = by_event (is_pending h.channels end.Front) refl
-  where
-    by_watch : (next : Option (List ℕ)) → watch_next h end.Front ≡ next → front_watched h next ≡ None → watch_next h end.Front ≡ None
-    by_watch None e act = e
-    by_watch (Some path) e act = absurd (none-some _ (sym act))
+untaken : {A : Type 0} (pending : Bool) (fired : Option (List ℕ)) (event : A) (watched : Option (List ℕ) → Option A) → ((path : List ℕ) → watched (Some path) ≡ None → ⊥) → (if pending then Some event else watched fired) ≡ None → (pending ≡ false) × (fired ≡ None)
+untaken true fired event watched some none = absurd (none-some event (sym none))
+untaken false None event watched some none = (refl, refl)
+untaken false (Some path) event watched some none = absurd (some path none)
 
-    by_event : (pending : Bool) → is_pending h.channels end.Front ≡ pending → has_to_take h end.Front ≡ false
-    by_event true e = absurd (none-some _ (sym (subst (λ (b : Bool). (if b then Some (front_event h) else front_watched h (watch_next h end.Front)) ≡ None) e none)))
-    by_event false e =
-        let quiet : front_watched h (watch_next h end.Front) ≡ None = subst (λ (b : Bool). (if b then Some (front_event h) else front_watched h (watch_next h end.Front)) ≡ None) e none in
-        nothing_to_take (is_pending h.channels end.Front) (watches_of h.keys end.Front) e (by_watch (watch_next h end.Front) refl quiet)
+front_waits : (h : Hypervisor) → front_act h front_ask.Wait ≡ None → has_to_take h end.Front ≡ false
+front_waits h none =
+    let both = untaken (is_pending h.channels end.Front) (watch_next h end.Front) (front_event h) (front_watched h) (λ path e. none-some _ (sym e)) none in
+    nothing_to_take (is_pending h.channels end.Front) (watches_of h.keys end.Front) both.0 both.1
 
 back_waits : (h : Hypervisor) → back_act h back_mover.Back back_ask.Wait Took ≡ None → has_to_take h end.Back ≡ false
-back_waits h none = by_event (is_pending h.channels end.Back) refl
-  where
-    by_watch : (next : Option (List ℕ)) → watch_next h end.Back ≡ next → back_watched h next ≡ None → watch_next h end.Back ≡ None
-    by_watch None e act = e
-    by_watch (Some path) e act = absurd (none-some _ (sym act))
-
-    by_event : (pending : Bool) → is_pending h.channels end.Back ≡ pending → has_to_take h end.Back ≡ false
-    by_event true e = absurd (none-some _ (sym (subst (λ (b : Bool). (if b then Some (back_event h) else back_watched h (watch_next h end.Back)) ≡ None) e none)))
-    by_event false e =
-        let quiet : back_watched h (watch_next h end.Back) ≡ None = subst (λ (b : Bool). (if b then Some (back_event h) else back_watched h (watch_next h end.Back)) ≡ None) e none in
-        nothing_to_take (is_pending h.channels end.Back) (watches_of h.keys end.Back) e (by_watch (watch_next h end.Back) refl quiet)
+back_waits h none =
+    let both = untaken (is_pending h.channels end.Back) (watch_next h end.Back) (back_event h) (back_watched h) (λ path e. none-some _ (sym e)) none in
+    nothing_to_take (is_pending h.channels end.Back) (watches_of h.keys end.Back) both.0 both.1
 
 -- an act of an ask that isn't to wait is none only of one for a key
 front_none : (h : Hypervisor) (ask : FrontAsk) → AsksNoKey ask → front_act h ask ≡ None → FrontRests h ask

@@ -43,11 +43,7 @@ one_more count w now v d e less ran = record { pipeline = ran.pipeline; less = l
 
 -- what no end looks for is some of what is left
 late_within : (w : World) (d : Pipeline) → late_left w.rings ≤ total_left w d
-late_within w d = by_halt (is_some w.rings.back.halted)
-  where
-    by_halt : (b : Bool) → cond b (unseen_left w.rings) 0 ≤ total_left w d
-    by_halt true = omega arith
-    by_halt false = omega arith
+late_within w d = elim (is_some w.rings.back.halted) as (λ b. cond b (unseen_left w.rings) 0 ≤ total_left w d) [ true ↦ omega arith | false ↦ omega arith ]
 
 module _ (config : Options) (falls : EachFalls config) where
   -- the back moves, and then each job

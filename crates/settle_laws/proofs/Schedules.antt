@@ -13,7 +13,7 @@ use Rattle.vbd_model.specs.Possible.{ArePossible}
 use Rattle.vbd_model.proofs.Running.{after-append}
 use Rattle.vbd_model.proofs.Possible.{possible_first, event_possible, event_so_far_possible}
 use Rattle.vbd_laws.specs.Quiet.{AreUntouched}
-use Rattle.vbd_laws.proofs.ServedHonest.{honest_start}
+use Rattle.vbd_laws.proofs.ServedRun.{honest_start}
 use Rattle.ring_settle_laws.proofs.BoundRing.{late_left}
 use Rattle.ring_settle_laws.proofs.Calm.{calm_start}
 use Rattle.settle_laws.specs.Total.{total_left}

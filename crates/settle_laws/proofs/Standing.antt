@@ -12,7 +12,8 @@ use Rattle.vbd_model.specs.Happening.{Happening, FrontMoves, BackMoves, Closes, 
 use Rattle.vbd_model.specs.Possible.{IsPossible}
 use Rattle.vbd_model.proofs.Running.{after-append}
 use Rattle.vbd_laws.specs.Quiet.{IsUntouched}
-use Rattle.vbd_laws.proofs.ServedHonest.{Honest, honest_after, all_served}
+use Rattle.vbd_laws.proofs.ServedHonest.{Honest}
+use Rattle.vbd_laws.proofs.ServedRun.{honest_after, all_served}
 use Rattle.vbd_laws.proofs.WaitsJobsHeld.{job_waits_alone}
 use Rattle.settle_laws.proofs.TurnsServed.{IsHonest, front_honest, back_honest}
 use Rattle.settle_laws.proofs.Working.{JobsWaitSo}

@@ -1,6 +1,7 @@
 -- Where the front was closed before this epoch began no end and no job has a move.
 use Rattle.std.proofs.Common.{◌≡◌, ◌∙◌, ap, sym, ℕ, ◌&&◌, ◌||◌, ◌==◌, not, Bool, true, false, true≢false, List, [], ◌∷◌, length, refl, if◌then◌else◌}
 use Rattle.std.specs.Prelude.{Some, None}
+use Rattle.std.proofs.Math.Bool.{and-false}
 use Rattle.blk_base.specs.declared.parts.End.TheVariants as end
 use Rattle.blk_base.specs.declared.moves.BackMover.TheVariants as back_mover
 use Rattle.blk_base.specs.declared.ask.FrontAsk.{FrontAsk}
@@ -36,6 +37,8 @@ use Rattle.vbd_model.specs.Fit.{IsFit}
 use Rattle.vbd_laws.proofs.FitFront.{asks_cases}
 use Rattle.vbd_laws.proofs.MovesTurns.{front_asks, back_asks}
 use Rattle.vbd_laws.proofs.ServedGone.{IsGone, gone_quiet}
+use Rattle.vbd_laws.proofs.ServedRun.{front_wait}
+use Rattle.vbd_laws.proofs.WaitsJobs.{waits_is}
 
 -- an end that waits and has nothing to take has no act
 front_none : (h : Hypervisor) (pending : Bool) (watches : List (List ℕ)) → (pending || not (is_empty_list watches)) ≡ false → (if pending then Some (front_event h) else front_watched h (first_of watches)) ≡ None
@@ -48,14 +51,6 @@ back_none h true watches e = absurd (true≢false e)
 back_none h false [] e = refl
 back_none h false (x ∷ watches) e = absurd (true≢false e)
 
-front_wait : (a : FrontAsk) → front_submit.is_wait a ≡ true → a ≡ front_ask.Wait
-front_wait front_ask.Wait is = refl
-front_wait a is = absurd (true≢false (sym is))
-
-back_wait : (a : BackAsk) → back_ring_ask.is_wait a ≡ true → a ≡ back_ask.Wait
-back_wait back_ask.Wait is = refl
-back_wait a is = absurd (true≢false (sym is))
-
 either_front : (moves : Bool) (v : front_view.View) → front_ring_ask.ask_of v.ring ≡ front_ask.Wait → front.ring_ask moves v ≡ front_ask.Wait
 either_front true v e = e
 either_front false v e = refl
@@ -63,10 +58,6 @@ either_front false v e = refl
 either_back : (moves : Bool) (v : back_view.View) → back_ring_ask.ask_of v.ring ≡ back_ask.Wait → back.ring_ask moves v ≡ back_ask.Wait
 either_back true v e = e
 either_back false v e = refl
-
-none_said : (b : Bool) → (b && false) ≡ false
-none_said true = refl
-none_said false = refl
 
 module _ (w : World) (fit : IsFit w) (gone : IsGone w) where
   quiet : AreQuiet (front_submit.is_idle w.rings.front) (back_ring_ask.is_idle w.rings.back) (has_to_take w.rings.under end.Front) (has_to_take w.rings.under end.Back)
@@ -78,7 +69,7 @@ module _ (w : World) (fit : IsFit w) (gone : IsGone w) where
   back_asked : back_asks w ≡ back_bus_ask.Wait
   back_asked =
       ap (λ (b : Bool). if b then back_bus_ask.SetState state.Closing else back_bus.ask_at w.back.stage w.back)
-      (ap (λ (s : BackBusStage). w.back.unplugged && back_bus.says_closing_at s w.back.state) gone.back ∙ none_said w.back.unplugged)
+      (ap (λ (s : BackBusStage). w.back.unplugged && back_bus.says_closing_at s w.back.state) gone.back ∙ and-false w.back.unplugged)
       ∙ ap (λ (s : BackBusStage). back_bus.ask_at s w.back) gone.back
 
   pub front_still : front_turn w ≡ None
@@ -93,7 +84,7 @@ module _ (w : World) (fit : IsFit w) (gone : IsGone w) where
   back_still =
       let h : Hypervisor = w.rings.under in
       let none_held = both_true (not (back_ring_ask.is_led w.rings.back.stage) && back_ring_ask.is_wait (back_ring_ask.ask_of w.rings.back)) (length w.rings.back.jobs.works == 0) quiet.back in
-      let rests = back_wait (back_ring_ask.ask_of w.rings.back) (both_true (not (back_ring_ask.is_led w.rings.back.stage)) (back_ring_ask.is_wait (back_ring_ask.ask_of w.rings.back)) none_held.0).1 in
+      let rests = waits_is (back_ring_ask.ask_of w.rings.back) (both_true (not (back_ring_ask.is_led w.rings.back.stage)) (back_ring_ask.is_wait (back_ring_ask.ask_of w.rings.back)) none_held.0).1 in
       ap (λ (b : BackBusAsk). back_act h back_mover.Back (back.ask_at b (backend_of w)) Took) back_asked
       ∙ (ap (λ (k : BackAsk). back_act h back_mover.Back k Took) (either_back (back.ring_moves back_bus_ask.Wait w.rings.back.stage) (backend_of w) rests)
       ∙ back_none h h.channels.back_pending h.keys.back.pending quiet.no_back)

@@ -10,7 +10,8 @@ use Rattle.machine_pipeline.specs.Allowed.{AreServed}
 use Rattle.vbd_model.specs.World.{World}
 use Rattle.vbd_model.specs.Happening.{FrontMoves, BackMoves, front_key, back_key, entered_at, halted_at, front_turn, back_turn, front_does, back_does}
 use Rattle.vbd_laws.proofs.MovesTurns.{front_asks, back_asks, front_cases, back_cases}
-use Rattle.vbd_laws.proofs.ServedHonest.{Honest, all_served}
+use Rattle.vbd_laws.proofs.ServedHonest.{Honest}
+use Rattle.vbd_laws.proofs.ServedRun.{all_served}
 
 -- what an end is to the ring's machine overwrites nothing
 states_honest : (states : List FrontState) → honest_history (map ring.FrontEnters states ++ []) ≡ map ring.FrontEnters states

@@ -16,7 +16,8 @@ use Rattle.blk_back.specs.Ask.{is_wait, is_led, ask_at, loop_ask, next_reply, re
 use Rattle.split_model.specs.World.{World}
 use Rattle.pipeline_laws.specs.Pipeline.{Pipeline}
 use Rattle.machine_pipeline.proofs.Flow.{Flow}
-use Rattle.machine_pipeline.proofs.Holds.{Holds, IsWork}
+use Rattle.machine_pipeline.proofs.Holds.{Holds}
+use Rattle.machine_pipeline.proofs.HoldsWorks.{IsWork}
 use Rattle.settle_laws.proofs.Working.{passes_first}
 
 -- one that is done has a response

@@ -1,6 +1,6 @@
 -- Where both ends wait and nothing is pending, before a hostile hand first overwrites a word or a key, neither waits for its negotiation.
-use Rattle.std.proofs.Common.{◌⊎◌, inl, inr, ◌≡◌, ◌∙◌, ap, sym, subst, refl, ℕ, ◌<◌, ◌≤◌, ◌==◌, Bool, true, false, true≢false, if◌then◌else◌, List, [], ◌∷◌, length, arith}
-use Rattle.std.specs.Prelude.{Option, Some, None, IsSome}
+use Rattle.std.proofs.Common.{◌⊎◌, inl, inr, ◌≡◌, ◌∙◌, ap, sym, subst, refl, ℕ, ◌<◌, ◌≤◌, ◌==◌, Bool, true, false, true≢false, List, [], ◌∷◌, length, arith}
+use Rattle.std.specs.Prelude.{Option, Some, None}
 use Rattle.std.proofs.lemmas.Bool.{or_parts}
 use Rattle.std.proofs.lemmas.Bool.Decides.{nat_tests}
 use Rattle.line_text.proofs.Both.{both_true}
@@ -12,10 +12,7 @@ use Rattle.key_directory.specs.Watches.{has_pending}
 use Rattle.hypervisor.specs.Act.{has_to_take}
 use Rattle.blk_front.specs.declared.stage.FrontStage.{FrontStage}
 use Rattle.blk_front.specs.declared.stage.FrontStage.TheVariants as ring_stage
-use Rattle.blk_front.specs.declared.stage.Ending.{Ending}
 use Rattle.blk_front.specs.declared.request.Request.{Request}
-use Rattle.blk_front.specs.View as front_ends
-use Rattle.blk_front.specs.Ask as front_ring
 use Rattle.blk_front.specs.Submit.{is_ready, is_led, is_idle, ending_of}
 use Rattle.blk_back.specs.declared.stage.BackStage.{BackStage}
 use Rattle.blk_back.specs.declared.stage.BackStage.TheVariants as back_stage
@@ -26,7 +23,6 @@ use Rattle.xenbus_state.specs.States.{state_number}
 use Rattle.xenbus_state.specs.declared.stage.FrontBusStage.{FrontBusStage}
 use Rattle.xenbus_state.specs.declared.stage.FrontBusStage.TheVariants as stage
 use Rattle.xenbus_state.specs.declared.stage.BackBusStage.{BackBusStage}
-use Rattle.xenbus_state.specs.declared.front.FrontBusAsk.{FrontBusAsk}
 use Rattle.xenbus_state.specs.declared.front.FrontBusAsk.TheVariants as front_bus
 use Rattle.xenbus_state.specs.declared.back.BackBusAsk.TheVariants as back_bus
 use Rattle.blk_front.specs.Suspend.{is_left}
@@ -40,13 +36,11 @@ use Rattle.vbd_back.specs.Ask as back
 use Rattle.vbd_model.specs.World.{World, frontend_of, backend_of}
 use Rattle.vbd_model.specs.Fit.{is_serving, FrontRests, FrontGoesWith, BackRests, BackGoesWith}
 use Rattle.vbd_laws.specs.Waits.{Check}
-use Rattle.vbd_laws.proofs.FitFrontMoves.{left_moves}
-use Rattle.vbd_laws.proofs.MovesTurns.{front_asks, back_asks}
+use Rattle.vbd_laws.proofs.MovesTurns.{back_asks}
 use Rattle.vbd_laws.proofs.NegotiatedRun.{Reached, Joined, negotiation_of}
-use Rattle.vbd_laws.proofs.NegotiatedFront.{HasInHand}
 use Rattle.vbd_laws.proofs.NegotiatedBusy.{HasHeard, busy_connected}
-use Rattle.vbd_laws.proofs.WaitsFront.{Knows as FrontKnows, in_hand, bus_waits as front_bus_waits, BusWaits as FrontBusWaits}
-use Rattle.vbd_laws.proofs.WaitsFrontCases.{bus_asks, only_rests as front_only_rests, rests_whole, ready_asks}
+use Rattle.vbd_laws.proofs.WaitsFront.{Knows as FrontKnows, bus_waits as front_bus_waits, BusWaits as FrontBusWaits}
+use Rattle.vbd_laws.proofs.WaitsFrontCases.{bus_asks, only_rests as front_only_rests, rests_whole, ready_asks, left_busy, same_ask}
 use Rattle.vbd_laws.proofs.WaitsBack.{Knows as BackKnows}
 use Rattle.vbd_laws.proofs.WaitsBackCases.{only_rests as back_only_rests, rests_so, unmaps_some, bus_waits as back_bus_waits, BusWaits as BackBusWaits}
 
@@ -90,20 +84,6 @@ serving_unled s serves = refl
 other : {A : Type 0} (own a b : BusState) → own ≡ a → own ≡ b → state_number a < state_number b → A
 other own a b is also less = absurd (let one : state_number own ≡ state_number a = ap state_number is in let two : state_number own ≡ state_number b = ap state_number also in omega (arith, one, two, less))
 
--- data that are left of an earlier epoch are read first
-reads_one : (e : Option Ending) (n : ℕ) → IsSome e → front_ring.read_ask e n ≡ front_ask.Wait → ⊥
-reads_one None n some waits = true≢false (sym some)
-reads_one (Some e) n some waits = absurd (cc)
-
-left_reads : (s : FrontStage) (v : front_ends.View) → is_left s ≡ true → HasInHand s v.ending → front_ring.ask_at s v ≡ front_ask.Wait → ⊥
-left_reads (ring_stage.LeftData n) v left hand waits = reads_one v.ending n hand waits
-left_reads s v left hand waits = true≢false (sym left)
-
-left_asks : (w : World) → is_left w.rings.front.stage ≡ true → front.ask_of (frontend_of w) ≡ front_ring.ask_of w.rings.front
-left_asks w left =
-    ap (λ (is : Bool). front.ask_at (if is then front_bus.Wait else bus_asks w) (frontend_of w)) left
-    ∙ ap (λ (moves : Bool). front.ring_ask moves (frontend_of w)) (left_moves w.rings.front.stage left)
-
 some_none : (q : Request) (qs : List Request) → q ∷ qs ≡ [] → ⊥
 some_none q qs e = absurd (cc)
 
@@ -125,14 +105,11 @@ module _ (w : World) (c d : Check) (k : FrontKnows w c) (j : BackKnows w d) (joi
   unleft = by_test (is_left r) refl
     where
       by_test : (left : Bool) → is_left r ≡ left → left ≡ false
-      by_test true e = absurd (left_reads r w.rings.front e (in_hand w c k) (sym (left_asks w e) ∙ waiting.front))
+      by_test true e = absurd (left_busy w c k e waiting.front)
       by_test false e = refl
 
-  asks : front_asks w ≡ bus_asks w
-  asks = ap (λ (left : Bool). if left then front_bus.Wait else bus_asks w) unleft
-
   waits : front.ask_at (bus_asks w) (frontend_of w) ≡ front_ask.Wait
-  waits = subst (λ (b : FrontBusAsk). front.ask_at b (frontend_of w) ≡ front_ask.Wait) asks waiting.front
+  waits = sym (same_ask w c k unleft) ∙ waiting.front
 
   front_rests : bus_asks w ≡ front_bus.Wait
   front_rests = front_only_rests w c k whole waits

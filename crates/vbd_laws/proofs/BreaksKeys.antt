@@ -2,6 +2,7 @@
 use Rattle.std.proofs.Common.{◌≡◌, ℕ, ◌+◌, ◌==◌, ◌&&◌, Bool, true, false, true≢false, not, if◌then◌else◌, List, length, refl, sym, ap, ◌∙◌, arith}
 use Rattle.std.specs.Prelude.{Option, Some, None, is_some}
 use Rattle.std.specs.Option.{option_map}
+use Rattle.std.proofs.Math.Bool.{and-true}
 use Rattle.blk_base.specs.declared.parts.End.TheVariants as end
 use Rattle.hypervisor.specs.Hypervisor.{Hypervisor}
 use Rattle.hypervisor.specs.Act.{FrontAct, front_act, key_at}
@@ -32,12 +33,13 @@ use Rattle.vbd_front.specs.View.{is_still, is_unoccupied}
 use Rattle.vbd_front.specs.Ask as front
 use Rattle.vbd_front.specs.Step.{news_told, state_of_news}
 use Rattle.vbd_model.specs.Fit.{FrontGoesWith}
+use Rattle.negotiation_laws.proofs.Choices.{due_cases}
 use Rattle.vbd_laws.specs.Halts.{state_said}
 use Rattle.vbd_laws.specs.Breaks.{FrontSight, due_of_state, due_of_text, due_after}
 use Rattle.vbd_laws.proofs.BreaksCounts.{none_left}
 use Rattle.vbd_laws.proofs.BreaksKept.{KnownBy}
 use Rattle.vbd_laws.proofs.BreaksPlaced.{IsPlaced}
-use Rattle.vbd_laws.proofs.FitFrontBus.{due_cases, rests_open}
+use Rattle.vbd_laws.proofs.FitFrontBus.{rests_open}
 
 -- the word of what it makes happen, where that breaks the front
 abbrev pub word_of_news : Option FrontNews → Option ℕ
@@ -152,21 +154,12 @@ abbrev pub reads_state : FrontBusStage → Bool
 reads_state stage.ReadState = true
 reads_state b = false
 
-leaving_reads : (P : FrontBusStage → Bool) → P stage.Rest ≡ false → P (stage.EndGrant 0) ≡ false → P stage.EndOtherGrants ≡ false → (gone : Bool) (port : Option ℕ) → P (bus.leaving gone port) ≡ false
-leaving_reads P rest ends others false port = rest
-leaving_reads P rest ends others true None = others
-leaving_reads P rest ends others true (Some p) = ends
-
-closing_reads : (P : FrontBusStage → Bool) → P stage.Rest ≡ false → P (stage.EndGrant 0) ≡ false → P stage.EndOtherGrants ≡ false → P (stage.WriteState state.Closing) ≡ false → (own : BusState) (v : FrontView) → P (bus.closing_stage own v) ≡ false
-closing_reads P rest ends others writes state.Closing v = leaving_reads P rest ends others v.gone v.port
-closing_reads P rest ends others writes own v = writes
-
 -- what is due is read where that was begun
 pub due_reading : (v : FrontView) (idle : Bool) → is_reading (bus.due v idle) ≡ true → is_reading v.stage ≡ true
-due_reading v idle = due_cases (λ (b : FrontBusStage). is_reading b ≡ true → is_reading v.stage ≡ true) v idle (λ is. is) (λ rests closes none is. absurd (true≢false (sym is ∙ closing_reads (λ (b : FrontBusStage). is_reading b) refl refl refl refl v.state v)))
+due_reading v idle = due_cases (λ (b : FrontBusStage). is_reading b ≡ true → is_reading v.stage ≡ true) v.stage v idle (λ is. is) (λ is. absurd (true≢false (sym is))) (λ is. absurd (true≢false (sym is))) (λ is. absurd (true≢false (sym is)))
 
 pub due_state : (v : FrontView) (idle : Bool) → reads_state (bus.due v idle) ≡ true → reads_state v.stage ≡ true
-due_state v idle = due_cases (λ (b : FrontBusStage). reads_state b ≡ true → reads_state v.stage ≡ true) v idle (λ is. is) (λ rests closes none is. absurd (true≢false (sym is ∙ closing_reads (λ (b : FrontBusStage). reads_state b) refl refl refl refl v.state v)))
+due_state v idle = due_cases (λ (b : FrontBusStage). reads_state b ≡ true → reads_state v.stage ≡ true) v.stage v idle (λ is. is) (λ is. absurd (true≢false (sym is))) (λ is. absurd (true≢false (sym is))) (λ is. absurd (true≢false (sym is)))
 
 -- its end of the ring is open then
 pub open_reading : (b : FrontBusStage) (v : FrontView) (r : FrontStage) → FrontGoesWith b v r → is_reading b ≡ true → is_open r ≡ true
@@ -194,11 +187,7 @@ idle_owes s f still known =
     let goes = still_going f.stage s f still known in
     let none = goes.0 in
     let all : length f.requests + ending_of f.stage ≡ length f.requests = omega arith in
-    ap (λ (n : ℕ). n == 0 && is_still f.stage) all ∙ (ap (λ (b : Bool). length f.requests == 0 && b) still ∙ (with_true (length f.requests == 0) ∙ sym goes.1))
-  where
-    with_true : (b : Bool) → (b && true) ≡ b
-    with_true true = refl
-    with_true false = refl
+    ap (λ (n : ℕ). n == 0 && is_still f.stage) all ∙ (ap (λ (b : Bool). length f.requests == 0 && b) still ∙ (and-true (length f.requests == 0) ∙ sym goes.1))
 
 -- a move of the negotiation: what it makes happen is due by what it showed
 writes_none : (own : BusState) → word_of_news (written_news own) ≡ None

@@ -50,7 +50,7 @@ use Rattle.vbd_laws.proofs.BreaksPlaced.{IsPlaced, due_placed, told_placed, foll
 use Rattle.vbd_laws.proofs.FitFront.{asks_cases}
 use Rattle.vbd_laws.proofs.FitFrontBus.{rests_open, open_whole}
 use Rattle.vbd_laws.proofs.MovesFront.{entered_told}
-use Rattle.vbd_laws.proofs.MovesTurns.{front_asks, front_cases}
+use Rattle.vbd_laws.proofs.MovesTurns.{front_asks, front_cases, front_spoken}
 use Rattle.vbd_laws.proofs.NegotiatedAgreed.{keeps_order}
 use Rattle.vbd_laws.proofs.ServedPossible.{Stands, IsWord, same_is, entered_words}
 
@@ -115,12 +115,7 @@ key_moves s (moves.SetKey who path text) is = record { same = refl; read = tt }
 key_moves s m is = absurd is
 
 asks_key : (b : FrontBusAsk) → front.speaks b ≡ true → AsksFrontKey (front.key_ask b)
-asks_key bus_ask.Watch says = tt
-asks_key bus_ask.GetState says = tt
-asks_key (bus_ask.GetKey key) says = tt
-asks_key (bus_ask.SetState s) says = tt
-asks_key (bus_ask.SetKey key value) says = tt
-asks_key b says = absurd (true≢false (sym says))
+asks_key = front_spoken (λ b. AsksFrontKey (front.key_ask b)) tt tt (λ key. tt) (λ s. tt) (λ key value. tt)
 
 -- the states that its end of the ring enters
 all_know : (n : ℕ) (states : List FrontState) (f : ring.View) (s : FrontSight) → f.shape.order ≡ n → AllByRecursion (IsWord n) states → Knows s f → Knows s (front_step.all_entered states f)

@@ -1,6 +1,7 @@
 -- A front that is closed or broken: no state is entered any more, its negotiation doesn't speak, and no submission is accepted.
 use Rattle.std.proofs.Common.{inl, inr, ◌≡◌, ℕ, ◌==◌, ◌&&◌, Bool, true, false, true≢false, not, if◌then◌else◌, List, [], ◌∷◌, refl, sym, ap, ◌∙◌}
 use Rattle.std.specs.Prelude.{Option, Some, None, Err}
+use Rattle.std.proofs.Math.Bool.{and-false}
 use Rattle.blk_base.specs.declared.refusal.Refusal.TheVariants as refusal
 use Rattle.line_text.proofs.Both.{both_true}
 use Rattle.blk_base.specs.declared.config.Submission.{Submission}
@@ -13,7 +14,7 @@ use Rattle.blk_front.specs.declared.stage.FrontStage.TheVariants as stage
 use Rattle.blk_front.specs.declared.state.FrontState.{FrontState}
 use Rattle.blk_front.specs.declared.state.FrontState.TheVariants as enter
 use Rattle.blk_front.specs.declared.state.Offers.{Offers}
-use Rattle.blk_front.specs.State.{is_open, is_made, is_bare, may_enter, in_state, enters}
+use Rattle.blk_front.specs.State.{is_open, is_made, may_enter, in_state, enters}
 use Rattle.blk_front.specs.Submit.{is_ready, unfinished, wish_of, submit_one, submit_of}
 use Rattle.blk_front.specs.Suspend.{is_left}
 use Rattle.blk_front.specs.Step.{step_at}
@@ -35,6 +36,7 @@ use Rattle.vbd_model.specs.Fit.{IsUnbegun, FrontGoesWith}
 use Rattle.vbd_laws.specs.Breaks.{FrontSight, with_word, with_producer, after_move, is_of_front}
 use Rattle.vbd_laws.proofs.BreaksEnters.{initialised_open, made_open}
 use Rattle.vbd_laws.proofs.FitFrontBus.{rests_open}
+use Rattle.vbd_laws.proofs.FitFrontClose.{bare_open}
 
 -- a move tells nothing of that
 pub over_same : (s : FrontSight) (m : Move) → (let u : FrontSight = after_move s m in u.over) ≡ s.over
@@ -99,11 +101,6 @@ unbegun_open r (inr left) = by_stage r left
     by_stage (stage.LeftData n) left = refl
     by_stage r left = absurd (true≢false (sym left))
 
-bare_open : (r : FrontStage) → is_bare r ≡ true → is_open r ≡ true
-bare_open (stage.RingWord k) bare = refl
-bare_open stage.Left bare = refl
-bare_open r bare = absurd (true≢false (sym bare))
-
 broken_busy : (r : FrontStage) → is_broken r ≡ true → is_still r ≡ false
 broken_busy (stage.Broken word) broken = refl
 broken_busy r broken = absurd (true≢false (sym broken))
@@ -114,11 +111,7 @@ speaks_open v f bus_stage.Rest here (inl rests) says = rests_open v.state v.gone
 speaks_open v f bus_stage.Rest here (inr broken) says = absurd (true≢false (sym says ∙ silent))
   where
     idle : is_unoccupied f ≡ false
-    idle = ap (λ (b : Bool). unfinished f == 0 && b) (broken_busy f.stage broken) ∙ with_false (unfinished f == 0)
-      where
-        with_false : (b : Bool) → (b && false) ≡ false
-        with_false true = refl
-        with_false false = refl
+    idle = ap (λ (b : Bool). unfinished f == 0 && b) (broken_busy f.stage broken) ∙ and-false (unfinished f == 0)
 
     rest : (closing : Bool) → front.speaks (bus.ask_at (if closing && false then bus.closing_stage v.state v else bus_stage.Rest) v) ≡ false
     rest true = refl

@@ -1,5 +1,5 @@
 -- The key of the back that the front reads is one of those of its stage, whatever happens.
-use Rattle.std.proofs.Common.{◌≡◌, ℕ, ◌+◌, Bool, true, false, refl, sym, subst}
+use Rattle.std.proofs.Common.{◌≡◌, ℕ, ◌+◌, Bool, false, refl, sym, subst}
 use Rattle.std.specs.Prelude.{Option, Some, None, nat_lt, ◌==◌}
 use Rattle.blk_base.specs.declared.ask.FrontAnswer.{FrontAnswer}
 use Rattle.blk_base.specs.declared.ask.FrontAnswer.TheVariants as front_answer
@@ -7,7 +7,6 @@ use Rattle.blk_front.specs.declared.stage.FrontStage.{FrontStage}
 use Rattle.blk_front.specs.declared.stage.FrontStage.TheVariants as front_ring
 use Rattle.xenbus_state.specs.declared.keys.BackKey.{BackKey}
 use Rattle.xenbus_state.specs.declared.keys.BackKey.TheVariants as key
-use Rattle.xenbus_state.specs.declared.keys.FrontKey.{FrontKey}
 use Rattle.xenbus_state.specs.declared.state.BusState.{BusState}
 use Rattle.xenbus_state.specs.declared.state.BusState.TheVariants as state
 use Rattle.xenbus_state.specs.declared.stage.FrontBusStage.{FrontBusStage}
@@ -21,12 +20,11 @@ use Rattle.xenbus_state.specs.Tables as tables
 use Rattle.xenbus_state.specs.Programs.{IsFeature, IsFact, next_feature, next_fact, next_published}
 use Rattle.xenbus_state.specs.Reading.{count_read, fact_read}
 use Rattle.xenbus_state.specs.FrontView.{FrontView, closed, pages_of, ring_order, suspended_at, suspended}
-use Rattle.xenbus_state.specs.FrontAsk.{ask_of, due, leaving, closing_stage}
+use Rattle.xenbus_state.specs.FrontAsk.{ask_of, due}
 use Rattle.xenbus_state.specs.FrontStep.{at, acted, feature_step, fact_step, after_feature, after_fact, after_published, after_grants, after_state, step_at, step_of}
 use Rattle.vbd_front.specs.View.{is_broken}
 use Rattle.vbd_front.specs.Step.{settled_at, bus_told, woken, followed, waited}
-use Rattle.negotiation_laws.proofs.Choices.{closed_cases, either}
-use Rattle.vbd_laws.proofs.FitFrontBus.{due_cases}
+use Rattle.negotiation_laws.proofs.Choices.{closed_cases, either, due_cases}
 
 -- the key that the front reads is one of those of its stage
 abbrev pub IsPlaced : FrontBusStage → Type 0
@@ -54,14 +52,6 @@ acted_placed : (act : FrontAction) (v : FrontView) → IsPlaced (acted act v).st
 acted_placed action.Nothing v = tt
 acted_placed other v = tt
 
-published_placed : (next : Option FrontKey) → IsPlaced (after_published next)
-published_placed None = tt
-published_placed (Some k) = tt
-
-grants_placed : (number : Option ℕ) → IsPlaced (after_grants number)
-grants_placed None = tt
-grants_placed (Some number) = tt
-
 written_placed : (s : BusState) → IsPlaced (after_state s)
 written_placed state.Closed = tt
 written_placed s = tt
@@ -76,23 +66,14 @@ at_placed (stage.WriteState s) v idle front_answer.Done placed here = written_pl
 at_placed stage.ClosePort v idle front_answer.Done placed here = tt
 at_placed (stage.RingWord word) v idle front_answer.Done placed here = either IsPlaced (word == 15) (stage.Grant 0) (stage.RingWord (word + 1)) tt tt
 at_placed (stage.Grant page) v idle front_answer.Done placed here = either IsPlaced (nat_lt (page + 1) (pages_of v)) (stage.Grant (page + 1)) stage.NewPort tt tt
-at_placed (stage.Publish k) v idle front_answer.Done placed here = published_placed (next_published (ring_order v) k)
+at_placed (stage.Publish k) v idle front_answer.Done placed here = elim (next_published (ring_order v) k) as (λ next. IsPlaced (after_published next)) [ None ↦ tt | Some k ↦ tt ]
 at_placed (stage.EndGrant page) v idle front_answer.Done placed here = either IsPlaced (nat_lt (page + 1) (pages_of v)) (stage.EndGrant (page + 1)) stage.EndOtherGrants tt tt
-at_placed stage.EndOtherGrants v idle front_answer.Done placed here = grants_placed v.port
+at_placed stage.EndOtherGrants v idle front_answer.Done placed here = elim v.port as (λ number. IsPlaced (after_grants number)) [ None ↦ tt | Some number ↦ tt ]
 at_placed s v idle front_answer.Done placed here = placed
 at_placed s v idle x placed here = subst IsPlaced (sym here) placed
 
-closing_placed : (s : BusState) (v : FrontView) → IsPlaced (closing_stage s v)
-closing_placed state.Closing v = leaving_placed v.gone v.port
-  where
-    leaving_placed : (gone : Bool) (number : Option ℕ) → IsPlaced (leaving gone number)
-    leaving_placed false number = tt
-    leaving_placed true (Some number) = tt
-    leaving_placed true None = tt
-closing_placed s v = tt
-
 pub due_placed : (v : FrontView) (idle : Bool) → IsPlaced v.stage → IsPlaced (due v idle)
-due_placed v idle placed = due_cases IsPlaced v idle placed (λ rests closes none. closing_placed v.state v)
+due_placed v idle placed = due_cases IsPlaced v.stage v idle placed tt tt tt
 
 step_placed : (v : FrontView) (idle : Bool) (x : FrontAnswer) → IsPlaced v.stage → IsPlaced (step_of v idle x).stage
 step_placed v idle x placed = at_placed (due v idle) (at (due v idle) v) idle x (due_placed v idle placed) refl

@@ -59,6 +59,7 @@ use Rattle.vbd_laws.proofs.Fit.{fit_happens}
 use Rattle.vbd_laws.proofs.MovesFront.{front_move_is, front_move_none, close_is}
 use Rattle.vbd_laws.proofs.MovesBack.{back_move_is, back_move_none}
 use Rattle.vbd_laws.proofs.ServedPossible.{Stands, stands_on}
+use Rattle.vbd_laws.proofs.StateLinesOver.{job_stays}
 
 -- what each happening leaves
 record Goes (s : FrontSight) (w : World) (h : Happening) : Type 0 where
@@ -184,10 +185,6 @@ back_one s w (Some a) fit holds e =
 job_aside : (w : rings.World) (k : ℕ) (o : Outcome) (act : Option BackAct) → ring.job_turn w k o ≡ act → AreAside (ring.job_shows w k act)
 job_aside w k o None e = tt
 job_aside w k o (Some a) e = (back_aside w.under (back_mover.Job k) (back_step.job_ask_of w.back k) o a e, told_aside _ a.answer)
-
-job_front : (w : rings.World) (k : ℕ) (act : Option BackAct) → (let x : rings.World = ring.job_after w k act in x.front) ≡ w.front
-job_front w k None = refl
-job_front w k (Some a) = refl
 
 -- what leaves the front and its negotiation as they were
 pub same_holds : (s : FrontSight) (w : World) (x : rings.World) (v : World) → v.rings.front ≡ w.rings.front → v.front ≡ w.front → Holds s w → Holds s v
@@ -346,7 +343,7 @@ one s w FrontMoves stands tight holds = front_one s w (front_turn w) stands tigh
 one s w BackMoves stands tight holds = back_one s w (back_turn w) stands.fit holds refl
 one s w (JobMoves k o) stands tight holds =
     aside_goes s w (JobMoves k o) (nil_aside (ring.job_shows w.rings k (ring.job_turn w.rings k o)) (job_aside w.rings k o (ring.job_turn w.rings k o) refl)) holds
-    (same_holds s w w.rings (happens w (JobMoves k o)) (job_front w.rings k (ring.job_turn w.rings k o)) refl holds)
+    (same_holds s w w.rings (happens w (JobMoves k o)) (job_stays w.rings k (ring.job_turn w.rings k o)) refl holds)
 one s w (Closes end.Front) stands tight holds = front_closes s w stands.fit holds
 one s w (Closes end.Back) stands tight holds = aside_goes s w (Closes end.Back) tt holds (same_holds s w w.rings (happens w (Closes end.Back)) refl refl holds)
 one s w (Submits job) stands tight holds = submit_goes s w job tight holds

@@ -240,21 +240,8 @@ module _ (s : FrontSight) (v : View) (h : Hypervisor) (a : FrontAct) (quiet : v.
       (tells_left e (subst (λ (x : Ending). HasPooled x.request) same telling.pooled) telling.none agree n _ is anew)) acts
 
   -- a request is issued, word by word
-  data_on : (o : Option Request) (n : ℕ) → next_request v ≡ o → IsIssuing (next_request v) s.response → Agree (core_of s) (share_of v) None → front_act h (data_ask o n) ≡ Some a → RingGoes s a.shown (at (data_stage o n) v)
-  data_on None n is issuing agree e = absurd (none-some issuing.r (sym is ∙ issuing.next_is))
-  data_on (Some r) n is issuing agree e = of_front (Goes (λ x. at (data_stage (Some r) n) v)) _ a (data_goes s v quiet few agree r is issuing.none n _) e
-
-  page_on : (o : Option Request) (n : ℕ) → next_request v ≡ o → IsIssuing (next_request v) s.response → Agree (core_of s) (share_of v) None → front_act h (page_ask o n) ≡ Some a → RingGoes s a.shown (at (page_stage o n) v)
-  page_on None n is issuing agree e = absurd (none-some issuing.r (sym is ∙ issuing.next_is))
-  page_on (Some r) n is issuing agree e = of_front (Goes (λ x. at (page_stage (Some r) n) v)) _ a (page_goes s v quiet few agree r is issuing.none n _) e
-
-  name_on : (o : Option Request) (place : ℕ) → next_request v ≡ o → IsIssuing (next_request v) s.response → Agree (core_of s) (share_of v) None → front_act h (name_ask o place) ≡ Some a → RingGoes s a.shown (at (stage.GrantFence place) v)
-  name_on None place is issuing agree e = absurd (none-some issuing.r (sym is ∙ issuing.next_is))
-  name_on (Some r) place is issuing agree e = of_front (Goes (λ x. at (stage.GrantFence place) v)) _ a (name_goes s v quiet few agree r is issuing.none place _) e
-
-  grant_on : (o : Option Request) (place : ℕ) → next_request v ≡ o → IsIssuing (next_request v) s.response → Agree (core_of s) (share_of v) None → front_act h (grant_ask o place) ≡ Some a → RingGoes s a.shown (granted o place v)
-  grant_on None place is issuing agree e = absurd (none-some issuing.r (sym is ∙ issuing.next_is))
-  grant_on (Some r) place is issuing agree e = of_front (Goes (λ x. granted (Some r) place v)) _ a (granted_goes s v quiet few agree r is issuing.none place _) e
+  issued_on : (P : Option Request → Type 0) → IsIssuing (next_request v) s.response → ((r : Request) → next_request v ≡ Some r → s.response ≡ [] → P (Some r)) → P (next_request v)
+  issued_on P issuing each = subst P (sym issuing.next_is) (each issuing.r issuing.next_is issuing.none)
 
   -- the pages of the ring
   flags_goes : (page : ℕ) → IsPage page s.response → Agree (core_of s) (share_of v) None → front_act h (ask_at (stage.RingFlags page) v) ≡ Some a → Goes (step_at (stage.RingFlags page) v) a
@@ -295,11 +282,19 @@ module _ (s : FrontSight) (v : View) (h : Hypervisor) (a : FrontAct) (quiet : v.
   ring_goes stage.NewPort here known e = of_front (Goes (step_at stage.NewPort v)) _ a (makes_port stage.Initialised (record { agree = known.agree; at = known.at }) _) e
   ring_goes stage.Initialised here known e = waits stage.Initialised here known (step_at stage.Initialised v) refl (λ path. refl) e
   ring_goes stage.Loop here known e = loop_goes (next_request v) refl here known.at known.agree e
-  ring_goes (stage.Data n) here known e = data_on (next_request v) n refl known.at known.agree e
-  ring_goes (stage.Pages n) here known e = page_on (next_request v) n refl known.at known.agree e
-  ring_goes (stage.GrantFrame place) here known e = name_on (next_request v) place refl known.at known.agree e
+  ring_goes (stage.Data n) here known e =
+      issued_on (λ o. front_act h (data_ask o n) ≡ Some a → RingGoes s a.shown (at (data_stage o n) v)) known.at
+      (λ r is none. of_front (Goes (λ x. at (data_stage (Some r) n) v)) _ a (data_goes s v quiet few known.agree r is none n _)) e
+  ring_goes (stage.Pages n) here known e =
+      issued_on (λ o. front_act h (page_ask o n) ≡ Some a → RingGoes s a.shown (at (page_stage o n) v)) known.at
+      (λ r is none. of_front (Goes (λ x. at (page_stage (Some r) n) v)) _ a (page_goes s v quiet few known.agree r is none n _)) e
+  ring_goes (stage.GrantFrame place) here known e =
+      issued_on (λ o. front_act h (name_ask o place) ≡ Some a → RingGoes s a.shown (at (stage.GrantFence place) v)) known.at
+      (λ r is none. of_front (Goes (λ x. at (stage.GrantFence place) v)) _ a (name_goes s v quiet few known.agree r is none place _)) e
   ring_goes (stage.GrantFence place) here known e = of_front (Goes (step_at (stage.GrantFence place) v)) _ a (fences (stage.GrantFlags place) (record { agree = known.agree; at = known.at })) e
-  ring_goes (stage.GrantFlags place) here known e = grant_on (next_request v) place refl known.at known.agree e
+  ring_goes (stage.GrantFlags place) here known e =
+      issued_on (λ o. front_act h (grant_ask o place) ≡ Some a → RingGoes s a.shown (granted o place v)) known.at
+      (λ r is none. of_front (Goes (λ x. granted (Some r) place v)) _ a (granted_goes s v quiet few known.agree r is none place _)) e
   ring_goes (stage.Slot k) here known e = let at = known.at in of_front (Goes (step_at (stage.Slot k) v)) _ a (slot_goes s v quiet few known.agree at.r at.next_is at.none k at.entry_is at.words) e
   ring_goes stage.Producer here known e = let at = known.at in of_front (Goes (step_at stage.Producer v)) _ a (pushed_goes s v quiet few known.agree at.r at.next_is at.none at.words) e
   ring_goes (stage.ProducerFence old) here known e = of_front (Goes (step_at (stage.ProducerFence old) v)) _ a (fences (stage.RequestEvent old) (record { agree = known.agree; at = known.at })) e

@@ -1,21 +1,16 @@
 -- Where the front's negotiation reads the back's state, its end of the ring has begun no step: that watch was taken as both waited.
-use Rattle.std.proofs.Common.{◌≡◌, ℕ, ◌+◌, ◌==◌, Bool, true, false, true≢false, if◌then◌else◌, refl, sym, ap, ◌∙◌, subst}
+use Rattle.std.proofs.Common.{◌≡◌, ℕ, ◌+◌, ◌==◌, Bool, true, false, true≢false, refl, sym, ap, ◌∙◌, subst}
 use Rattle.std.specs.Prelude.{Option, Some, None, nat_lt}
-use Rattle.std.proofs.lemmas.Option.{none-some}
 use Rattle.blk_base.specs.declared.ask.FrontAsk.{FrontAsk}
 use Rattle.blk_base.specs.declared.ask.FrontAnswer.{FrontAnswer}
 use Rattle.blk_base.specs.declared.ask.FrontAnswer.TheVariants as answer
 use Rattle.hypervisor.specs.Hypervisor.{Hypervisor}
 use Rattle.hypervisor.specs.Act.{FrontAct, front_act}
 use Rattle.blk_front.specs.declared.request.Request.{Request}
-use Rattle.blk_front.specs.declared.request.Transfer.{Transfer}
-use Rattle.blk_front.specs.declared.request.Transfer.TheVariants as transfer
 use Rattle.blk_front.specs.declared.stage.FrontStage.{FrontStage}
 use Rattle.blk_front.specs.declared.stage.FrontStage.TheVariants as ring_stage
-use Rattle.blk_front.specs.declared.stage.Ending.{Ending}
-use Rattle.blk_front.specs.Request.{is_indirect}
 use Rattle.blk_front.specs.State.{is_made}
-use Rattle.blk_front.specs.Submit.{is_ready}
+use Rattle.blk_front.specs.Submit.{is_ready, is_wait}
 use Rattle.blk_front.specs.Suspend.{is_left}
 use Rattle.blk_front.specs.View as ring
 use Rattle.blk_front.specs.View.{next_request, slot_frame, slot_word}
@@ -29,7 +24,6 @@ use Rattle.xenbus_state.specs.declared.stage.FrontBusStage.TheVariants as stage
 use Rattle.xenbus_state.specs.declared.front.FrontBusAsk.{FrontBusAsk}
 use Rattle.xenbus_state.specs.declared.front.FrontBusAsk.TheVariants as bus_ask
 use Rattle.xenbus_state.specs.declared.keys.BackKey.{BackKey}
-use Rattle.xenbus_state.specs.declared.keys.FrontKey.{FrontKey}
 use Rattle.xenbus_state.specs.declared.table.FrontAction.{FrontAction}
 use Rattle.xenbus_state.specs.declared.table.FrontAction.TheVariants as action
 use Rattle.xenbus_state.specs.States.{state_read}
@@ -40,6 +34,7 @@ use Rattle.xenbus_state.specs.FrontView.{FrontView, ring_order, pages_of}
 use Rattle.xenbus_state.specs.FrontAsk as bus
 use Rattle.xenbus_state.specs.FrontStep.{at, acted, feature_step, fact_step, after_feature, after_fact, after_published, after_grants, after_state, step_at, step_of}
 use Rattle.split_model.proofs.SafeActs.{of_front}
+use Rattle.split_model.proofs.Acting.{FrontWatched, front_acts}
 use Rattle.vbd_front.specs.View.{is_still, is_broken}
 use Rattle.vbd_front.specs.Ask as front
 use Rattle.vbd_front.specs.Step.{settled_at, settled, bus_told, woken, followed, waited}
@@ -48,6 +43,7 @@ use Rattle.negotiation_laws.proofs.Choices.{either}
 use Rattle.vbd_laws.specs.Breaks.{FrontSight}
 use Rattle.vbd_laws.proofs.BreaksKept.{KnownBy}
 use Rattle.vbd_laws.proofs.BreaksKeys.{reads_state, due_state}
+use Rattle.vbd_laws.proofs.WaitsFront.{issue_asks}
 
 abbrev pub is_watched : FrontAnswer → Bool
 is_watched (answer.Watched path) = true
@@ -67,29 +63,13 @@ acted_unread : (act : FrontAction) (v : FrontView) → reads_state (acted act v)
 acted_unread action.Nothing v = refl
 acted_unread other v = refl
 
-features_unread : (k : Option BackKey) → reads_state (after_feature k) ≡ false
-features_unread None = refl
-features_unread (Some k) = refl
-
 feature_unread : (k : BackKey) (n : Option ℕ) (v : FrontView) → reads_state (feature_step k n v).stage ≡ false
 feature_unread k None v = refl
-feature_unread k (Some n) v = features_unread (next_feature k)
-
-facts_unread : (k : Option BackKey) → reads_state (after_fact k) ≡ false
-facts_unread None = refl
-facts_unread (Some k) = refl
+feature_unread k (Some n) v = elim (next_feature k) as (λ next. reads_state (after_feature next) ≡ false) [ None ↦ refl | Some key ↦ refl ]
 
 fact_unread : (k : BackKey) (n : Option ℕ) (v : FrontView) → reads_state (fact_step k n v).stage ≡ false
 fact_unread k None v = refl
-fact_unread k (Some n) v = facts_unread (next_fact k)
-
-published_unread : (k : Option FrontKey) → reads_state (after_published k) ≡ false
-published_unread None = refl
-published_unread (Some k) = refl
-
-grants_unread : (port : Option ℕ) → reads_state (after_grants port) ≡ false
-grants_unread None = refl
-grants_unread (Some port) = refl
+fact_unread k (Some n) v = elim (next_fact k) as (λ next. reads_state (after_fact next) ≡ false) [ None ↦ refl | Some key ↦ refl ]
 
 written_unread : (own : BusState) → reads_state (after_state own) ≡ false
 written_unread state.Closed = refl
@@ -105,9 +85,9 @@ step_unread (stage.WriteState own) v idle answer.Done other none = written_unrea
 step_unread stage.ClosePort v idle answer.Done other none = refl
 step_unread (stage.RingWord word) v idle answer.Done other none = either (λ (one : FrontBusStage). reads_state one ≡ false) (word == 15) (stage.Grant 0) (stage.RingWord (word + 1)) refl refl
 step_unread (stage.Grant page) v idle answer.Done other none = either (λ (one : FrontBusStage). reads_state one ≡ false) (nat_lt (page + 1) (pages_of v)) (stage.Grant (page + 1)) stage.NewPort refl refl
-step_unread (stage.Publish k) v idle answer.Done other none = published_unread (next_published (ring_order v) k)
+step_unread (stage.Publish k) v idle answer.Done other none = elim (next_published (ring_order v) k) as (λ next. reads_state (after_published next) ≡ false) [ None ↦ refl | Some key ↦ refl ]
 step_unread (stage.EndGrant page) v idle answer.Done other none = either (λ (one : FrontBusStage). reads_state one ≡ false) (nat_lt (page + 1) (pages_of v)) (stage.EndGrant (page + 1)) stage.EndOtherGrants refl refl
-step_unread stage.EndOtherGrants v idle answer.Done other none = grants_unread v.port
+step_unread stage.EndOtherGrants v idle answer.Done other none = elim v.port as (λ port. reads_state (after_grants port) ≡ false) [ None ↦ refl | Some port ↦ refl ]
 step_unread stage.Start v idle answer.Done other none = refl
 step_unread b v idle answer.Done other none = none
 step_unread b v idle x other none = none
@@ -134,7 +114,7 @@ spoken_unread h v idle a = by_due (bus.due v idle) refl
         at_stage stage.ReadState says e = of_front (λ (x : FrontAct). reads_state (step_at stage.ReadState (at stage.ReadState v) idle x.answer).stage ≡ false) _ a (acted_unread (front_action v.state v.closing idle (state_read _)) (at stage.ReadState v)) e
         at_stage (stage.ReadFeature k) says e = of_front (λ (x : FrontAct). reads_state (step_at (stage.ReadFeature k) (at (stage.ReadFeature k) v) idle x.answer).stage ≡ false) _ a (feature_unread k _ (at (stage.ReadFeature k) v)) e
         at_stage (stage.ReadFact k) says e = of_front (λ (x : FrontAct). reads_state (step_at (stage.ReadFact k) (at (stage.ReadFact k) v) idle x.answer).stage ≡ false) _ a (fact_unread k _ (at (stage.ReadFact k) v)) e
-        at_stage (stage.Publish k) says e = of_front (λ (x : FrontAct). reads_state (step_at (stage.Publish k) (at (stage.Publish k) v) idle x.answer).stage ≡ false) _ a (published_unread (next_published (ring_order v) k)) e
+        at_stage (stage.Publish k) says e = of_front (λ (x : FrontAct). reads_state (step_at (stage.Publish k) (at (stage.Publish k) v) idle x.answer).stage ≡ false) _ a (elim (next_published (ring_order v) k) as (λ next. reads_state (after_published next) ≡ false) [ None ↦ refl | Some key ↦ refl ]) e
         at_stage (stage.WriteState own) says e = of_front (λ (x : FrontAct). reads_state (step_at (stage.WriteState own) (at (stage.WriteState own) v) idle x.answer).stage ≡ false) _ a (written_unread own) e
         at_stage b says e = absurd (true≢false (sym says))
 
@@ -162,17 +142,12 @@ pub waited_unread : (b : FrontBusAsk) (idle : Bool) (v : FrontView) (x : FrontAn
 waited_unread bus_ask.Wait idle v x busy none = absurd (true≢false busy)
 waited_unread b idle v x busy none = none
 
--- its end of the ring waits where it has begun no step
-issue_unwatched : (h : Hypervisor) (v : ring.View) (r : Request) (way : Transfer) (a : FrontAct) → front_act h (issue_ask v r way) ≡ Some a → is_watched a.answer ≡ false
-issue_unwatched h v r (transfer.Write tag) a e = of_front (λ (x : FrontAct). is_watched x.answer ≡ false) _ a refl e
-issue_unwatched h v r (transfer.Barrier tag) a e = of_front (λ (x : FrontAct). is_watched x.answer ≡ false) _ a refl e
-issue_unwatched h v r transfer.Flush a e = of_front (λ (x : FrontAct). is_watched x.answer ≡ false) _ a refl e
-issue_unwatched h v r (transfer.Discard sectors) a e = of_front (λ (x : FrontAct). is_watched x.answer ≡ false) _ a refl e
-issue_unwatched h v r transfer.Read a e = by_test (is_indirect r.count) e
-  where
-    by_test : (b : Bool) → front_act h (if b then page_ask (Some r) 0 else name_ask (Some r) 0) ≡ Some a → is_watched a.answer ≡ false
-    by_test true e = of_front (λ (x : FrontAct). is_watched x.answer ≡ false) _ a refl e
-    by_test false e = of_front (λ (x : FrontAct). is_watched x.answer ≡ false) _ a refl e
+-- its end of the ring waits where it has begun no step: another ask takes no watch
+ask_unwatched : (h : Hypervisor) (asked : FrontAsk) (a : FrontAct) → is_wait asked ≡ false → front_act h asked ≡ Some a → is_watched a.answer ≡ false
+ask_unwatched h asked a on e = (elim (front_acts h asked a e) as (λ wish x acts. is_wait wish ≡ false → is_watched x.answer ≡ false) [
+  | FrontWatched path first ↦ λ on. absurd (true≢false on)
+  | acts ↦ λ on. refl
+]) on
 
 module _ (s : FrontSight) (v : ring.View) (h : Hypervisor) (a : FrontAct) where
   abbrev Still : FrontStage → Type 0
@@ -181,40 +156,9 @@ module _ (s : FrontSight) (v : ring.View) (h : Hypervisor) (a : FrontAct) where
   unwatched : {P : Type 0} → is_watched a.answer ≡ false → is_watched a.answer ≡ true → P
   unwatched none some = absurd (true≢false (sym some ∙ none))
 
-  asked : (ask : FrontAsk) (x : FrontAct) → is_watched x.answer ≡ false → Some x ≡ Some a → is_watched a.answer ≡ false
-  asked ask x none e = of_front (λ (x : FrontAct). is_watched x.answer ≡ false) x a none e
-
-  data_unwatched : (o : Option Request) (n : ℕ) (r : Request) → o ≡ Some r → front_act h (data_ask o n) ≡ Some a → is_watched a.answer ≡ false
-  data_unwatched None n r is e = absurd (none-some r is)
-  data_unwatched (Some q) n r is e = of_front (λ (x : FrontAct). is_watched x.answer ≡ false) _ a refl e
-
-  page_unwatched : (o : Option Request) (n : ℕ) (r : Request) → o ≡ Some r → front_act h (page_ask o n) ≡ Some a → is_watched a.answer ≡ false
-  page_unwatched None n r is e = absurd (none-some r is)
-  page_unwatched (Some q) n r is e = of_front (λ (x : FrontAct). is_watched x.answer ≡ false) _ a refl e
-
-  name_unwatched : (o : Option Request) (place : ℕ) (r : Request) → o ≡ Some r → front_act h (name_ask o place) ≡ Some a → is_watched a.answer ≡ false
-  name_unwatched None place r is e = absurd (none-some r is)
-  name_unwatched (Some q) place r is e = of_front (λ (x : FrontAct). is_watched x.answer ≡ false) _ a refl e
-
-  grant_unwatched : (o : Option Request) (place : ℕ) (r : Request) → o ≡ Some r → front_act h (grant_ask o place) ≡ Some a → is_watched a.answer ≡ false
-  grant_unwatched None place r is e = absurd (none-some r is)
-  grant_unwatched (Some q) place r is e = of_front (λ (x : FrontAct). is_watched x.answer ≡ false) _ a refl e
-
-  revoke_unwatched : (o : Option Ending) (place : ℕ) (x : Ending) → o ≡ Some x → front_act h (revoke_ask o place) ≡ Some a → is_watched a.answer ≡ false
-  revoke_unwatched None place x is e = absurd (none-some x is)
-  revoke_unwatched (Some q) place x is e = of_front (λ (x : FrontAct). is_watched x.answer ≡ false) _ a refl e
-
-  end_unwatched : (o : Option Ending) (place old : ℕ) (x : Ending) → o ≡ Some x → front_act h (end_ask o place old) ≡ Some a → is_watched a.answer ≡ false
-  end_unwatched None place old x is e = absurd (none-some x is)
-  end_unwatched (Some q) place old x is e = of_front (λ (x : FrontAct). is_watched x.answer ≡ false) _ a refl e
-
-  read_unwatched : (o : Option Ending) (n : ℕ) (x : Ending) → o ≡ Some x → front_act h (read_ask o n) ≡ Some a → is_watched a.answer ≡ false
-  read_unwatched None n x is e = absurd (none-some x is)
-  read_unwatched (Some q) n x is e = of_front (λ (x : FrontAct). is_watched x.answer ≡ false) _ a refl e
-
   -- in the loop
   loop_still : (o : Option Request) → v.stage ≡ ring_stage.Loop → front_act h (loop_ask v o) ≡ Some a → is_watched a.answer ≡ true → is_still (ring_step.loop_step v o a.answer).stage ≡ true
-  loop_still (Some r) here e some = unwatched (issue_unwatched h v r r.transfer a e) some
+  loop_still (Some r) here e some = unwatched (ask_unwatched h _ a (issue_asks v r r.transfer) e) some
   loop_still None here e some = by_answer a.answer some
     where
       by_answer : (x : FrontAnswer) → is_watched x ≡ true → is_still (ring_step.loop_step v None x).stage ≡ true
@@ -225,14 +169,14 @@ module _ (s : FrontSight) (v : ring.View) (h : Hypervisor) (a : FrontAct) where
   pub watched_still : (t : FrontStage) → v.stage ≡ t → KnownBy s t v → is_broken t ≡ false → front_act h (ring_asks.ask_at t v) ≡ Some a → Still t
   watched_still ring_stage.Initialised here known whole e some = ap is_still here
   watched_still ring_stage.Loop here known whole e some = loop_still (next_request v) here e some
-  watched_still (ring_stage.Data n) here known whole e some = let at = known.at in unwatched (data_unwatched (next_request v) n at.r at.next_is e) some
-  watched_still (ring_stage.Pages n) here known whole e some = let at = known.at in unwatched (page_unwatched (next_request v) n at.r at.next_is e) some
-  watched_still (ring_stage.GrantFrame place) here known whole e some = let at = known.at in unwatched (name_unwatched (next_request v) place at.r at.next_is e) some
-  watched_still (ring_stage.GrantFlags place) here known whole e some = let at = known.at in unwatched (grant_unwatched (next_request v) place at.r at.next_is e) some
-  watched_still (ring_stage.GrantRead place) here known whole e some = let at = known.at in unwatched (revoke_unwatched v.ending place at.e at.ending_is e) some
-  watched_still (ring_stage.GrantEnd place old) here known whole e some = let at = known.at in unwatched (end_unwatched v.ending place old at.e at.ending_is e) some
-  watched_still (ring_stage.ReadData n) here known whole e some = let at = known.at in unwatched (read_unwatched v.ending n at.e at.ending_is e) some
-  watched_still (ring_stage.LeftData n) here known whole e some = let at = known.at.1 in unwatched (read_unwatched v.ending n at.e at.ending_is e) some
+  watched_still (ring_stage.Data n) here known whole e some = let at = known.at in unwatched (ask_unwatched h (data_ask (next_request v) n) a (rw at.next_is refl) e) some
+  watched_still (ring_stage.Pages n) here known whole e some = let at = known.at in unwatched (ask_unwatched h (page_ask (next_request v) n) a (rw at.next_is refl) e) some
+  watched_still (ring_stage.GrantFrame place) here known whole e some = let at = known.at in unwatched (ask_unwatched h (name_ask (next_request v) place) a (rw at.next_is refl) e) some
+  watched_still (ring_stage.GrantFlags place) here known whole e some = let at = known.at in unwatched (ask_unwatched h (grant_ask (next_request v) place) a (rw at.next_is refl) e) some
+  watched_still (ring_stage.GrantRead place) here known whole e some = let at = known.at in unwatched (ask_unwatched h (revoke_ask v.ending place) a (rw at.ending_is refl) e) some
+  watched_still (ring_stage.GrantEnd place old) here known whole e some = let at = known.at in unwatched (ask_unwatched h (end_ask v.ending place old) a (rw at.ending_is refl) e) some
+  watched_still (ring_stage.ReadData n) here known whole e some = let at = known.at in unwatched (ask_unwatched h (read_ask v.ending n) a (rw at.ending_is refl) e) some
+  watched_still (ring_stage.LeftData n) here known whole e some = let at = known.at.1 in unwatched (ask_unwatched h (read_ask v.ending n) a (rw at.ending_is refl) e) some
   watched_still (ring_stage.KeptRead frame) here known whole e some = ap is_still here
   watched_still (ring_stage.KeptEnd frame seen) here known whole e some = ap is_still here
   watched_still ring_stage.Left here known whole e some = ap is_still here

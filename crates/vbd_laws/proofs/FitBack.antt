@@ -1,6 +1,7 @@
 -- The machine stays fit as the back moves, and as it is asked to close.
 use Rattle.std.proofs.Common.{◌≡◌, ◌≤◌, Bool, true, false, true≢false, ◌&&◌, List, [], ◌∷◌, if◌then◌else◌, refl, sym, ap, ◌∙◌, subst}
 use Rattle.std.specs.Prelude.{Option, Some, None, min}
+use Rattle.std.proofs.Math.Bool.{and-false}
 use Rattle.line_text.proofs.Both.{both_true}
 use Rattle.blk_base.specs.declared.parts.End.TheVariants as end
 use Rattle.blk_base.specs.declared.ask.BackAsk.{BackAsk}
@@ -30,7 +31,7 @@ use Rattle.xenbus_state.specs.declared.back.BackBusAsk.TheVariants as back_bus
 use Rattle.xenbus_state.specs.declared.table.BackHalt.{BackHalt}
 use Rattle.xenbus_state.specs.Values.{back_value}
 use Rattle.xenbus_state.specs.Programs.{next_feature}
-use Rattle.xenbus_state.specs.BackView.{BackView, is_halting, unplugged}
+use Rattle.xenbus_state.specs.BackView.{BackView, unplugged}
 use Rattle.xenbus_state.specs.BackAsk.{says_closing_at, says_closing, ask_at, IsAnswer}
 use Rattle.xenbus_state.specs.BackStep.{at, after_feature, step_at, step_of}
 use Rattle.split_model.specs.World as rings
@@ -49,13 +50,15 @@ use Rattle.vbd_back.specs.Step as back_step
 use Rattle.vbd_model.specs.World.{World, backend_of}
 use Rattle.vbd_model.specs.Happening.{back_key, back_does, back_turn, back_bus_after, halted_at, reasons_of, attaches, happens, BackMoves, Closes}
 use Rattle.vbd_model.specs.Fit.{FrontOrdered, BackGoesWith, IsUnbound, IsOffered, SaysKey, SaidBefore, SaidAt, IsAnnounced, ReadsOffer, IsFit}
+use Rattle.negotiation_laws.proofs.Choices.{unplugged_cases}
 use Rattle.vbd_laws.proofs.FitBackBus.{BackFits, BackShares, told_at, spoken_fits}
 use Rattle.vbd_laws.proofs.FitBackKept.{Facts, facts_in, is_publishing, HasSaid, facts_settled, facts_moved, facts_closed, said_settled, said_moved, stage_closed}
 use Rattle.vbd_laws.proofs.FitBackMoves.{ring_fits, wait_fits}
 use Rattle.vbd_laws.proofs.FitSaid.{LeavesBack, same_back, watched_leaves, asked_keeps, said_kept, said_past, announced_kept, announced_asked, said_next, set_says}
 use Rattle.vbd_laws.proofs.FitFrontReads.{reads_kept}
 use Rattle.vbd_laws.proofs.KeysSet.{back_may_set}
-use Rattle.vbd_laws.proofs.FitBackShares.{spoken_shares, moved_shares, waited_shares, closed_shares}
+use Rattle.vbd_laws.proofs.FitBackShares.{spoken_shares, waited_shares, closed_shares}
+use Rattle.vbd_laws.proofs.FitBackFollows.{moved_shares}
 use Rattle.vbd_laws.proofs.MovesAttached.{halted_only, all_halt, asks_layout, not_led, taken}
 use Rattle.vbd_laws.proofs.FitChannels.{IsUnported, past_unbound, unported_back, unbound_back}
 use Rattle.vbd_laws.proofs.FitBackRing.{gives_past, given, unbound_past}
@@ -159,20 +162,16 @@ led w a fit moves e =
     (spoken_fits w.back w.rings.back a.answer (back_fits w fit) (back_shares w fit) says told, spoken_shares w.back w.rings.back a.answer (back_fits w fit) (back_shares w fit) says told)
 
 -- it publishes a feature, whose key says so then; or all have been published
-never : (b : Bool) → (b && false) ≡ false
-never true = refl
-never false = refl
-
 pub asks_publishing : (w : World) (k : BackKey) → w.back.stage ≡ stage.Publish k → (says_closing w.back ≡ false) × (back_asks w ≡ back_bus.SetKey k (back_value w.back.features w.back.disk k))
 asks_publishing w k here =
-    let on : says_closing w.back ≡ false = ap (λ (b : BackBusStage). w.back.unplugged && says_closing_at b w.back.state) here ∙ never w.back.unplugged in
+    let on : says_closing w.back ≡ false = ap (λ (b : BackBusStage). w.back.unplugged && says_closing_at b w.back.state) here ∙ and-false w.back.unplugged in
     (on, ap (λ (c : Bool). if c then back_bus.SetState state.Closing else ask_at w.back.stage w.back) on ∙ ap (λ (b : BackBusStage). ask_at b w.back) here)
 
 next_settled : (k : Option BackKey) (r : BackStage) (v : BackView) → (let u : BackView = back_step.settled r (at (after_feature k) v) in u.stage) ≡ after_feature k
 next_settled (Some k) r v = refl
 next_settled None r v = refl
 
-told_done : (k : BackKey) (value : KeyValue) (x : BackAnswer) → IsAnswer (back_bus.SetKey k value) x → x ≡ answer.Done
+pub told_done : (k : BackKey) (value : KeyValue) (x : BackAnswer) → IsAnswer (back_bus.SetKey k value) x → x ≡ answer.Done
 told_done k value answer.Done allowed = refl
 told_done k value x allowed = absurd allowed
 
@@ -309,8 +308,4 @@ fit_back_moves w fit = fit_turn w (back_turn w) fit refl
 -- and a close
 pub fit_back_closes : (w : World) → IsFit w → IsFit (happens w (Closes end.Back))
 fit_back_closes w fit = fit_back w w.rings (unplugged w.back) fit fit.safe
-    (record { facts = facts_closed w.back; info = refl; said = subst (λ (b : BackBusStage). SaidAt (Says w w.rings.under.keys) b) (sym (stage_closed w.back)) fit.said; says = λ k is. is; announced = fit.announced }) (by_fits (is_halting w.back.stage)) (closed_shares w.back w.rings.back (back_shares w fit)) refl fit.unported fit.unbound
-  where
-    by_fits : (c : Bool) → BackFits (let v : BackView = w.back in if c then v else record v { unplugged = true }) w.rings.back
-    by_fits true = back_fits w fit
-    by_fits false = record { goes = fit.back; held = fit.held; halted = fit.halted }
+    (record { facts = facts_closed w.back; info = refl; said = subst (λ (b : BackBusStage). SaidAt (Says w w.rings.under.keys) b) (sym (stage_closed w.back)) fit.said; says = λ k is. is; announced = fit.announced }) (unplugged_cases (λ (v : BackView). BackFits v w.rings.back) w.back (back_fits w fit) (record { goes = fit.back; held = fit.held; halted = fit.halted })) (closed_shares w.back w.rings.back (back_shares w fit)) refl fit.unported fit.unbound

@@ -1,9 +1,10 @@
 -- The back's negotiation goes on with its end of the ring, as the other end's keys are read and its own are set, and halts with it.
-use Rattle.std.proofs.Common.{◌≡◌, ℕ, ◌==◌, Bool, true, false, true≢false, ◌&&◌, ◌+◌, ◌^◌, ◌<◌, ◌≤◌, if◌then◌else◌, List, [], ◌∷◌, inl, inr, refl, sym, ap, ◌∙◌, subst, arith}
+use Rattle.std.proofs.Common.{◌≡◌, ℕ, ◌==◌, Bool, true, false, true≢false, ◌+◌, ◌^◌, ◌<◌, ◌≤◌, if◌then◌else◌, List, [], ◌∷◌, inl, inr, refl, sym, ap, ◌∙◌, subst, arith}
 use Rattle.std.specs.Prelude.{Option, Some, None, ◌⊎◌, is_some, length, nat_lt, nat_le}
 use Rattle.std.proofs.lemmas.Nat.{pow_pos}
 use Rattle.std.proofs.lemmas.Bool.Decides.{nat_tests}
 use Rattle.std.specs.Option.{option_map}
+use Rattle.std.proofs.Math.Bool.{and-false}
 use Rattle.line_text.proofs.Both.{both_true}
 use Rattle.blk_base.specs.declared.operation.Abi.{Abi}
 use Rattle.blk_base.specs.declared.parts.Mapping.{Mapping}
@@ -88,11 +89,7 @@ pub ends_fit : (s : BackStage) (v : BackView) (r : ends.View) → r.stage ≡ s 
 ends_fit s v r at_stage ended here halts held = by_stage s at_stage ended held
   where
     goes_on : says_closing v ≡ false
-    goes_on = rw here (by_asked v.unplugged)
-      where
-        by_asked : (b : Bool) → (b && false) ≡ false
-        by_asked true = refl
-        by_asked false = refl
+    goes_on = rw here (and-false v.unplugged)
 
     Ended : BackBusStage → Type 0
     Ended b = BackFits (at b v) r

@@ -9,7 +9,6 @@ use Rattle.blk_back.specs.declared.stage.BackStage.{BackStage}
 use Rattle.blk_back.specs.declared.stage.BackStage.TheVariants as ring
 use Rattle.xenbus_state.specs.declared.keys.FrontKey.{FrontKey}
 use Rattle.xenbus_state.specs.declared.keys.FrontKey.TheVariants as key
-use Rattle.xenbus_state.specs.declared.keys.BackKey.{BackKey}
 use Rattle.xenbus_state.specs.declared.state.BusState.{BusState}
 use Rattle.xenbus_state.specs.declared.state.BusState.TheVariants as state
 use Rattle.xenbus_state.specs.declared.offer.Features.{Features}
@@ -122,10 +121,6 @@ past_state : (s : BusState) → is_publishing (after_state s) ≡ false
 past_state state.InitWait = refl
 past_state s = refl
 
-past_fact : (k : Option BackKey) → is_publishing (after_fact k) ≡ false
-past_fact None = refl
-past_fact (Some k) = refl
-
 past_up : (pages : List Mapping) (bound : Bool) (own : BusState) → is_publishing (unmapping_next pages bound own) ≡ false
 past_up (page ∷ pages) bound own = refl
 past_up [] true own = refl
@@ -144,10 +139,6 @@ past_next key.Protocol v u next = ap is_publishing next.0
 past_next key.FeaturePersistent v u next = ap is_publishing next.0
 past_next k v u next = past_early u.stage next
 
-past_mapped : (more : Bool) → is_publishing (if more then stage.MapPage else stage.Bind) ≡ false
-past_mapped true = refl
-past_mapped false = refl
-
 past_at : (b : BackBusStage) (v : BackView) (x : BackAnswer) → v.stage ≡ b → is_publishing b ≡ false → IsPast (step_at b v x)
 past_at (stage.Publish k) v x here past = absurd (true≢false past)
 past_at (stage.WriteState s) v answer.Done here past = past_state s
@@ -155,11 +146,11 @@ past_at stage.Watch v answer.Done here past = refl
 past_at stage.Rest v (answer.Watched path) here past = refl
 past_at stage.ReadState v (answer.Key text) here past = past_acted (back_action v.state v.unplugged (state_read text)) v
 past_at (stage.ReadKey k) v (answer.Key text) here past = reads_key (λ (o : Option BackView). IsPast (kept_or_halted o v)) k text v (λ u reads. past_next k v u reads.next) refl
-past_at stage.MapPage v (answer.Mapped page) here past = past_mapped (nat_lt (length v.pages + 1) (length v.grefs))
+past_at stage.MapPage v (answer.Mapped page) here past = elim (nat_lt (length v.pages + 1) (length v.grefs)) as (λ more. is_publishing (if more then stage.MapPage else stage.Bind) ≡ false) [ true ↦ refl | false ↦ refl ]
 past_at stage.MapPage v (answer.MapRefused status) here past = refl
 past_at stage.Bind v answer.Done here past = refl
 past_at stage.Bind v answer.BindRefused here past = refl
-past_at (stage.PublishFact k) v answer.Done here past = past_fact (next_fact k)
+past_at (stage.PublishFact k) v answer.Done here past = elim (next_fact k) as (λ k. is_publishing (after_fact k) ≡ false) [ None ↦ refl | Some k ↦ refl ]
 past_at stage.UnmapOthers v answer.Done here past = past_up v.pages v.bound v.state
 past_at stage.UnmapPage v answer.Done here past = past_up (other_pages v.pages) v.bound v.state
 past_at stage.ClosePort v answer.Done here past = refl

@@ -110,7 +110,7 @@ serves_fit u r x none on holds (inl serves) goes =
 serves_fit u r x none on holds (inr ends) goes = stops x u ends.1 on (gives_ended x.stage ends.0) (gives_holds x.stage u.terms.order (length u.pages) u.bound ends.0 holds.0 holds.1)
 
 -- while the negotiation rests: a watch that is taken has it read the front's state
-rests_serving : (own : BusState) (s : BackStage) → BackRests own s → ring_moves bus_ask.Wait s ≡ true → is_serving s ≡ true
+pub rests_serving : (own : BusState) (s : BackStage) → BackRests own s → ring_moves bus_ask.Wait s ≡ true → is_serving s ≡ true
 rests_serving state.InitWait s rests moves = absurd (true≢false (sym moves ∙ ap (ring_moves bus_ask.Wait) rests))
 rests_serving state.Connected s rests moves = rests
 rests_serving state.Closing s rests moves = rests

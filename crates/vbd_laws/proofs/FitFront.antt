@@ -48,7 +48,8 @@ use Rattle.vbd_model.specs.Fit.{IsUnbound, SaysKey, ReadsOffer, IsFit}
 use Rattle.vbd_laws.proofs.FitFrontRing.{unfinished_step}
 use Rattle.vbd_laws.proofs.FitFrontBus.{FrontFits, unoccupied}
 use Rattle.vbd_laws.proofs.FitFrontSpoken.{ReadsOrder, Answers, spoken_settles}
-use Rattle.vbd_laws.proofs.FitFrontMoves.{left_starts, left_moves, left_fits, ring_fits, wait_fits}
+use Rattle.vbd_laws.proofs.FitFrontMoves.{left_starts, left_moves}
+use Rattle.vbd_laws.proofs.FitFrontFollows.{left_fits, ring_fits, wait_fits}
 use Rattle.vbd_laws.proofs.FitFrontClose.{close_fits}
 use Rattle.vbd_laws.proofs.FitFrontTerms.{Terms, same_terms, terms_told, terms_followed, terms_waited, terms_closed}
 use Rattle.vbd_laws.proofs.FitFrontReads.{followed_is, waited_is, publishes_offered, reads_kept, Announces, told_reads, closed_reads}

@@ -62,6 +62,23 @@ due_cases P v idle begun closes = by_stage v.stage refl
     by_stage stage.Rest here = by_test (v.closing && idle) here refl
     by_stage b here = subst P here begun
 
+-- that is: to say that it closes, to end the grants of its ring, or where it has none to end those that are left
+pub due_ways : (P : FrontBusStage → Type 0) (v : FrontView) (idle : Bool) → P v.stage
+    → (v.stage ≡ stage.Rest → v.closing ≡ true → P (stage.WriteState state.Closing))
+    → (v.stage ≡ stage.Rest → v.gone ≡ true → P (stage.EndGrant 0))
+    → (v.stage ≡ stage.Rest → v.gone ≡ true → P stage.EndOtherGrants)
+    → P (due v idle)
+due_ways P v idle begun says ends leaves = due_cases P v idle begun (λ here closing is_idle. by_state v.state here closing)
+  where
+    by_gone : (gone : Bool) (port : Option ℕ) → v.stage ≡ stage.Rest → v.gone ≡ gone → P (leaving gone port)
+    by_gone false port here g = subst P here begun
+    by_gone true None here g = leaves here g
+    by_gone true (Some p) here g = ends here g
+
+    by_state : (own : BusState) → v.stage ≡ stage.Rest → v.closing ≡ true → P (closing_stage own v)
+    by_state state.Closing here closing = by_gone v.gone v.port here refl
+    by_state own here closing = says here closing
+
 -- a front that rests made nothing, or all, and ended nothing yet
 made_rests : (port : Option ℕ) (r : FrontStage) → IsSome port → is_made r ≡ true → FrontRests state.Closing false port r
 made_rests None r port made = absurd (true≢false (sym port))

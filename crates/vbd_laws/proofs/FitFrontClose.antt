@@ -27,7 +27,7 @@ ending_open page (ring.RingRead k) is = refl
 ending_open page (ring.RingEnd k seen) is = refl
 ending_open page r is = absurd is
 
-bare_open : (r : FrontStage) → is_bare r ≡ true → is_open r ≡ true
+pub bare_open : (r : FrontStage) → is_bare r ≡ true → is_open r ≡ true
 bare_open (ring.RingWord k) bare = refl
 bare_open ring.Left bare = refl
 bare_open r bare = absurd (true≢false (sym bare))

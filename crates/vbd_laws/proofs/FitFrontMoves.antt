@@ -1,6 +1,6 @@
 -- The front's negotiation goes on with its end of the ring, as that moves.
 use Rattle.std.proofs.Common.{◌≡◌, ℕ, ◌+◌, ◌^◌, ◌<◌, Bool, true, false, true≢false, ◌||◌, ◌&&◌, if◌then◌else◌, List, [], ◌∷◌, inl, inr, refl, sym, ap, ◌∙◌, subst, arith}
-use Rattle.std.specs.Prelude.{Option, Some, None, IsSome, ◌-◌, ◌%◌, ◌==◌, ◌⊎◌, nat_lt, length, slice_get, slice_set}
+use Rattle.std.specs.Prelude.{Option, Some, None, IsSome, ◌-◌, ◌==◌, ◌⊎◌, nat_lt, length, slice_get}
 use Rattle.std.proofs.lemmas.Bool.Decides.{nat_tests}
 use Rattle.line_text.proofs.Both.{both_true}
 use Rattle.blk_base.specs.declared.ask.FrontAsk.{FrontAsk}
@@ -8,15 +8,13 @@ use Rattle.blk_base.specs.declared.ask.FrontAsk.TheVariants as front_ask
 use Rattle.blk_base.specs.declared.ask.FrontAnswer.{FrontAnswer}
 use Rattle.blk_base.specs.declared.ask.FrontAnswer.TheVariants as answer
 use Rattle.blk_front.specs.declared.request.Request.{Request}
-use Rattle.blk_front.specs.declared.stage.Ending.{Ending}
-use Rattle.blk_front.specs.Request.{words_in}
 use Rattle.blk_front.specs.declared.stage.FrontStage.{FrontStage}
 use Rattle.blk_front.specs.declared.stage.FrontStage.TheVariants as ring
 use Rattle.blk_front.specs.View as ends
 use Rattle.ring_words.specs.Shape.{Shape}
 use Rattle.split_model.proofs.Shapes.{step_shape}
 use Rattle.blk_front.specs.Ask.{is_through, loop_ask, ask_at as ring_ask_at, IsAnswer}
-use Rattle.blk_front.specs.Step.{at as ring_at, broken as ring_broken, loop_step, is_mapped, ring_left, sector_told, finished, left_step, step_at as ring_step_at, step_of as ring_step_of}
+use Rattle.blk_front.specs.Step.{at as ring_at, broken as ring_broken, loop_step, is_mapped, ring_left, step_at as ring_step_at, step_of as ring_step_of}
 use Rattle.blk_front.specs.Submit.{ending_of, is_ready, is_connected}
 use Rattle.blk_front.specs.State.{is_made, is_bare}
 use Rattle.blk_front.specs.Suspend.{is_left}
@@ -26,28 +24,28 @@ use Rattle.xenbus_state.specs.declared.stage.FrontBusStage.{FrontBusStage}
 use Rattle.xenbus_state.specs.declared.stage.FrontBusStage.TheVariants as stage
 use Rattle.xenbus_state.specs.declared.front.FrontBusAsk.TheVariants as ask
 use Rattle.xenbus_state.specs.FrontView.{FrontView, ring_order}
-use Rattle.xenbus_state.specs.FrontAsk.{leaving, due, ask_at, ask_of}
+use Rattle.xenbus_state.specs.FrontAsk.{due, ask_at}
 use Rattle.xenbus_state.specs.FrontStep.{at, step_at}
 use Rattle.vbd_front.specs.View.{is_still, is_unoccupied, is_broken}
 use Rattle.vbd_front.specs.Ask.{speaks, ring_moves}
-use Rattle.vbd_front.specs.Step.{settled, bus_told, woken, followed, waited}
-use Rattle.vbd_model.specs.Fit.{IsEndingPage, FrontRests, IsGranting, IsUnbegun, FrontGoesWith, IsAgreed, PortOrdered, FrontOrdered}
+use Rattle.vbd_front.specs.Step.{settled, bus_told, woken, followed}
+use Rattle.vbd_model.specs.Fit.{IsEndingPage, FrontRests, IsGranting, FrontGoesWith, IsAgreed, PortOrdered, FrontOrdered}
 use Rattle.vbd_laws.proofs.FitFrontRing.{up_step, closing_step, through_step, broken_step}
-use Rattle.vbd_laws.proofs.FitFrontBus.{FrontFits, unoccupied, due_cases, closing_cases, rests_due}
-use Rattle.vbd_laws.proofs.FitFrontSpoken.{fits_at, whole_rests, whole_ordered}
+use Rattle.vbd_laws.proofs.FitFrontBus.{FrontFits, rests_due}
+use Rattle.vbd_laws.proofs.FitFrontSpoken.{whole_rests}
 
 -- the negotiation goes on with the end of the ring, and neither writes a state nor begins to close
-record Follows (v u : FrontView) (r : FrontStage) (n : ℕ) : Type 0 where
-  goes : FrontGoesWith u.stage u r
-  closing : u.closing ≡ v.closing
-  own : u.state ≡ v.state
-  ordered : FrontOrdered u.stage u n
+pub record Follows (v u : FrontView) (r : FrontStage) (n : ℕ) : Type 0 where
+  pub goes : FrontGoesWith u.stage u r
+  pub closing : u.closing ≡ v.closing
+  pub own : u.state ≡ v.state
+  pub ordered : FrontOrdered u.stage u n
 
 abbrev FollowsTo : FrontView → FrontStage → ℕ → FrontView → Type 0
 FollowsTo v r n u = Follows v u r n
 
 -- so they fit after a move of the end of the ring
-follows_fit : (v u : FrontView) (f : ends.View) (x : FrontAnswer) → FrontFits v f → Follows v u (ring_step_of f x).stage f.shape.order → FrontFits u (ring_step_of f x)
+pub follows_fit : (v u : FrontView) (f : ends.View) (x : FrontAnswer) → FrontFits v f → Follows v u (ring_step_of f x).stage f.shape.order → FrontFits u (ring_step_of f x)
 follows_fit v u f x h follows = record {
   goes = follows.goes;
   closing = λ whole. closing_step f x ∙ (h.closing (before whole) ∙ sym follows.closing);
@@ -67,7 +65,7 @@ told_at : (d : FrontBusStage) (v : FrontView) (idle : Bool) (x : FrontAnswer) �
 told_at d v idle x e = ap (λ (s : FrontBusStage). settled idle (step_at s (at s v) idle x)) e
 
 -- a watch that is taken has a front that rests read the other end's state
-woken_follows : (broken : Bool) (v : FrontView) (idle : Bool) (x : FrontAnswer) (r : FrontStage) (n : ℕ) → v.stage ≡ stage.Rest → due v idle ≡ stage.Rest → PortOrdered v.port v.order v.features.order n
+pub woken_follows : (broken : Bool) (v : FrontView) (idle : Bool) (x : FrontAnswer) (r : FrontStage) (n : ℕ) → v.stage ≡ stage.Rest → due v idle ≡ stage.Rest → PortOrdered v.port v.order v.features.order n
     → FrontRests v.state v.gone v.port r ⊎ (is_broken r ≡ true) → (broken ≡ false → is_broken r ≡ false) → Follows v (woken broken idle v x) r n
 woken_follows broken v idle x r n here e ordered rests whole = by_answer broken x rests whole
   where
@@ -121,7 +119,7 @@ port_follows v idle f (answer.Port port) e own agreed allowed =
 port_follows v idle f x e own agreed allowed = absurd allowed
 
 -- a page's grant is ended in two moves, or the ring breaks: then the next one's is, or the port is closed
-end_follows : (page : ℕ) (s : FrontStage) (v : FrontView) (idle : Bool) (f : ends.View) (x : FrontAnswer) (p : ℕ) → due v idle ≡ stage.EndGrant page → v.state ≡ state.Closing → v.port ≡ Some p → IsAgreed v.order v.features.order f.shape.order
+pub end_follows : (page : ℕ) (s : FrontStage) (v : FrontView) (idle : Bool) (f : ends.View) (x : FrontAnswer) (p : ℕ) → due v idle ≡ stage.EndGrant page → v.state ≡ state.Closing → v.port ≡ Some p → IsAgreed v.order v.features.order f.shape.order
     → FrontOrdered v.stage v f.shape.order → ((r : FrontStage) → IsEndingPage page r ⊎ (is_broken r ≡ true) → FrontGoesWith v.stage v r)
     → IsEndingPage page s → IsAnswer (ring_ask_at s f) x → Follows v (followed (ask.EndGrant page) (ring_step_at s f x).stage idle v x) (ring_step_at s f x).stage f.shape.order
 end_follows page (ring.RingRead k) v idle f (answer.Word word) p e own port agreed ordered still is allowed = by_test (is_mapped word)
@@ -172,12 +170,8 @@ closed_follows v idle f x e own agreed allowed = absurd allowed
 -- a front that is through waits in its loop
 through_loops : (f : ends.View) (r : Option Request) (x : FrontAnswer) → is_through f ≡ true → f.stage ≡ ring.Loop → r ≡ None → IsAnswer (loop_ask f r) x → (loop_step f r x).stage ≡ ring.Loop
 through_loops f (Some r) x through here none allowed = absurd (cc)
-through_loops f None x through here none allowed = by_answer x (waits (f.ring.asleep || is_through f) _ (asleep f.ring.asleep) allowed)
+through_loops f None x through here none allowed = by_answer x (waits (f.ring.asleep || is_through f) _ (elim f.ring.asleep as (λ b. (b || is_through f) ≡ true) [ true ↦ refl | false ↦ through ]) allowed)
   where
-    asleep : (b : Bool) → (b || is_through f) ≡ true
-    asleep true = refl
-    asleep false = through
-
     waits : (b : Bool) (a : FrontAsk) → b ≡ true → IsAnswer (if b then front_ask.Wait else a) x → IsAnswer front_ask.Wait x
     waits true a is allowed = allowed
     waits false a is allowed = absurd (true≢false (sym is))
@@ -245,7 +239,7 @@ leaves_next v f here whole h own gone = by_port v.port refl (subst (λ (g : Bool
         rests_due v (is_unoccupied f) true here (rw (closing, idle) refl) ∙ rw (own, gone, p) refl
 
 -- one that is closed or broken reads it no more
-over_follows : (b : FrontBusStage) (broken : Bool) (v : FrontView) (idle : Bool) (x : FrontAnswer) (r : FrontStage) (n : ℕ) → v.stage ≡ b → due v idle ≡ b
+pub over_follows : (b : FrontBusStage) (broken : Bool) (v : FrontView) (idle : Bool) (x : FrontAnswer) (r : FrontStage) (n : ℕ) → v.stage ≡ b → due v idle ≡ b
     → ((path : List ℕ) → settled idle (step_at b (at b v) idle (answer.Watched path)) ≡ at b v) → Follows v v r n → Follows v (woken broken idle v x) r n
 over_follows b true v idle x r n here e same unmoved = unmoved
 over_follows b false v idle (answer.Watched path) r n here e same unmoved =
@@ -253,7 +247,7 @@ over_follows b false v idle (answer.Watched path) r n here e same unmoved =
 over_follows b false v idle x r n here e same unmoved = unmoved
 
 -- its end of the ring moves while the front rests
-rest_follows : (v : FrontView) (f : ends.View) (x : FrontAnswer) → v.stage ≡ stage.Rest → due v (is_unoccupied f) ≡ stage.Rest → FrontFits v f → is_connected f.stage ≡ true → IsAnswer (ring_ask_at f.stage f) x
+pub rest_follows : (v : FrontView) (f : ends.View) (x : FrontAnswer) → v.stage ≡ stage.Rest → due v (is_unoccupied f) ≡ stage.Rest → FrontFits v f → is_connected f.stage ≡ true → IsAnswer (ring_ask_at f.stage f) x
     → Follows v (woken (is_broken (ring_step_of f x).stage) (is_unoccupied f) v x) (ring_step_of f x).stage f.shape.order
 rest_follows v f x here e h moves allowed =
     let goes : FrontGoesWith stage.Rest v f.stage = rw here at h.goes in
@@ -265,7 +259,7 @@ rest_follows v f x here e h moves allowed =
         rests_on v.state v.gone v.port f x moves (whole_rests v f here whole h) (λ own. h.through own whole) (λ own gone. let ends : stage.Rest ≡ stage.EndGrant 0 = sym e ∙ leaves_next v f here whole h own gone in absurd (cc)) allowed
 
 -- and while the negotiation asks it to make the ring, or to leave it
-begun_follows : (b : FrontBusStage) (s : FrontStage) (v : FrontView) (idle : Bool) (f : ends.View) (x : FrontAnswer) → v.stage ≡ b → f.stage ≡ s → due v idle ≡ b → FrontOrdered b v f.shape.order → FrontGoesWith b v s
+pub begun_follows : (b : FrontBusStage) (s : FrontStage) (v : FrontView) (idle : Bool) (f : ends.View) (x : FrontAnswer) → v.stage ≡ b → f.stage ≡ s → due v idle ≡ b → FrontOrdered b v f.shape.order → FrontGoesWith b v s
     → (b ≡ stage.Rest → Follows v (followed ask.Wait (ring_step_at s f x).stage idle v x) (ring_step_at s f x).stage f.shape.order) → speaks (ask_at b v) ≡ false → ring_moves (ask_at b v) s ≡ true
     → IsAnswer (ring_ask_at s f) x → Follows v (followed (ask_at b v) (ring_step_at s f x).stage idle v x) (ring_step_at s f x).stage f.shape.order
 begun_follows stage.Rest s v idle f x here at_stage e ordered goes rests quiet moves allowed = rests refl
@@ -369,106 +363,3 @@ left_moves r left = absurd (true≢false (sym left))
 pub connected_still : (r : FrontStage) → ring_moves ask.Wait r ≡ false → is_connected r ≡ false
 connected_still (ring.LeftData n) still = refl
 connected_still r still = still
-
--- a move of the ring's end, which its negotiation leaves it
-pub ring_fits : (v : FrontView) (f : ends.View) (x : FrontAnswer) → FrontFits v f → speaks (ask_of v (is_unoccupied f)) ≡ false → ring_moves (ask_of v (is_unoccupied f)) f.stage ≡ true
-    → IsAnswer (ring_ask_at f.stage f) x → FrontFits (followed (ask_of v (is_unoccupied f)) (ring_step_of f x).stage (is_unoccupied f) v x) (ring_step_of f x)
-ring_fits v f x h quiet moves allowed =
-    follows_fit v _ f x h
-    (due_cases (λ (d : FrontBusStage). due v idle ≡ d → Moves d) v idle
-    (λ e quiet moves. begun_follows v.stage f.stage v idle f x refl refl e h.ordered h.goes (λ here. rest_follows v f x here (e ∙ here) h (rests here moves) allowed) quiet moves allowed)
-    (λ here closing is_idle.
-    let is = unoccupied f is_idle in
-    closing_cases (λ (d : FrontBusStage). due v idle ≡ d → Moves d) v f.stage is.still (whole_rests v f here is.whole h) (λ first e quiet. absurd (true≢false quiet))
-    (λ own ending. leaves here own is.whole v.gone v.port refl refl ending)) refl quiet moves)
-  where
-    idle : Bool
-    idle = is_unoccupied f
-
-    Moves : FrontBusStage → Type 0
-    Moves d = speaks (ask_at d v) ≡ false → ring_moves (ask_at d v) f.stage ≡ true → Follows v (followed (ask_at d v) (ring_step_of f x).stage idle v x) (ring_step_of f x).stage f.shape.order
-
-    none : v.stage ≡ stage.Rest → is_left f.stage ≡ false
-    none here = none_left v.stage v f.stage h.goes (λ begins. let same : stage.Rest ≡ stage.Start = sym here ∙ begins in cc)
-
-    rests : v.stage ≡ stage.Rest → ring_moves (ask_at v.stage v) f.stage ≡ true → is_connected f.stage ≡ true
-    rests here moves = connected_moves f.stage (none here) (rw here at moves)
-
-    leaves : v.stage ≡ stage.Rest → v.state ≡ state.Closing → is_broken f.stage ≡ false → (gone : Bool) (port : Option ℕ) → v.gone ≡ gone → v.port ≡ port → FrontRests state.Closing gone port f.stage
-        → due v idle ≡ leaving gone port → Moves (leaving gone port)
-    leaves here own whole false port g p ending e quiet moves = rest_follows v f x here e h (connected_moves f.stage (none here) moves) allowed
-    leaves here own whole true None g p ending e quiet moves = absurd ending
-    leaves here own whole true (Some n) g p ending e quiet moves =
-        let agreed = whole_ordered v f here h in end_follows 0 f.stage v idle f x n e own p (rw p at agreed) h.ordered rested ending allowed
-      where
-        rested : (r : FrontStage) → IsEndingPage 0 r ⊎ (is_broken r ≡ true) → FrontGoesWith v.stage v r
-        rested r (inl is) = rw here (inl (rw (own, g, p) is))
-        rested r (inr is) = rw here (inr is)
-
--- the negotiation waits where the ring's end has no move
-pub wait_fits : (v : FrontView) (f : ends.View) (x : FrontAnswer) → FrontFits v f → speaks (ask_of v (is_unoccupied f)) ≡ false → ring_moves (ask_of v (is_unoccupied f)) f.stage ≡ false
-    → FrontFits (waited (ask_of v (is_unoccupied f)) (is_unoccupied f) v x) f
-wait_fits v f x h quiet still =
-    kept
-    (due_cases (λ (d : FrontBusStage). due v idle ≡ d → Waits d) v idle (λ e. begun v.stage refl e h.goes)
-    (λ here closing is_idle.
-    let is = unoccupied f is_idle in
-    closing_cases (λ (d : FrontBusStage). due v idle ≡ d → Waits d) v f.stage is.still (whole_rests v f here is.whole h) (λ first e quiet. absurd (true≢false quiet)) (λ own ending. leaves here v.gone v.port)) refl quiet still)
-  where
-    idle : Bool
-    idle = is_unoccupied f
-
-    Waits : FrontBusStage → Type 0
-    Waits d = speaks (ask_at d v) ≡ false → ring_moves (ask_at d v) f.stage ≡ false → Follows v (waited (ask_at d v) idle v x) f.stage f.shape.order
-
-    kept : Follows v (waited (ask_of v idle) idle v x) f.stage f.shape.order → FrontFits (waited (ask_of v idle) idle v x) f
-    kept follows = fits_at v _ f follows.goes follows.closing follows.own follows.ordered h
-
-    unmoved : Follows v v f.stage f.shape.order
-    unmoved = record { goes = h.goes; closing = refl; own = refl; ordered = h.ordered }
-
-    whole : (r : FrontStage) → is_connected r ≡ false → is_broken r ≡ false
-    whole (ring.Broken word) still = absurd (true≢false still)
-    whole r still = refl
-
-    rests : v.stage ≡ stage.Rest → due v idle ≡ stage.Rest → is_connected f.stage ≡ false → Follows v (woken false idle v x) f.stage f.shape.order
-    rests here e still = let is = whole f.stage still in woken_follows false v idle x f.stage f.shape.order here e (rw here at h.ordered) (inl (whole_rests v f here is h)) (λ none. is)
-
-    begun : (b : FrontBusStage) → v.stage ≡ b → due v idle ≡ b → FrontGoesWith b v f.stage → Waits b
-    begun stage.Rest here e goes quiet still = rests here e (connected_still f.stage still)
-    begun stage.Closed here e goes quiet still = over_follows stage.Closed false v idle x f.stage f.shape.order here e (λ path. refl) unmoved
-    begun (stage.Broken word) here e goes quiet still = over_follows (stage.Broken word) false v idle x f.stage f.shape.order here e (λ path. refl) unmoved
-    begun b here e goes quiet still = unmoved
-
-    leaves : v.stage ≡ stage.Rest → (gone : Bool) (port : Option ℕ) → due v idle ≡ leaving gone port → Waits (leaving gone port)
-    leaves here false port e quiet still = rests here e (connected_still f.stage still)
-    leaves here true None e quiet still = unmoved
-    leaves here true (Some n) e quiet still = unmoved
-
--- data that are left are told while the negotiation waits
-left_goes : (r : FrontStage) (f : ends.View) (x : FrontAnswer) → f.stage ≡ r → is_left r ≡ true → IsUnbegun (ring_step_at r f x).stage
-left_goes (ring.LeftData n) f (answer.Word word) here left = by_ending f.ending
-  where
-    by_ending : (o : Option Ending) → IsUnbegun (left_step o n word f).stage
-    by_ending None = inr (ap is_left here)
-    by_ending (Some e) = by_more (nat_lt (n + 1) (words_in e.request))
-      where
-        by_more : (more : Bool) → IsUnbegun (if more then ring_at (ring.LeftData (n + 1)) (sector_told e n (slice_set f.words (n % 128) word) f) else ring_at (ring.RingWord 0) (finished e (sector_told e n (slice_set f.words (n % 128) word) f))).stage
-        by_more true = inr refl
-        by_more false = inl refl
-left_goes (ring.LeftData n) f x here left = inr (ap is_left here)
-left_goes r f x here left = absurd (true≢false (sym left))
-
-pub left_fits : (v : FrontView) (f : ends.View) (x : FrontAnswer) → FrontFits v f → is_left f.stage ≡ true
-    → FrontFits (followed ask.Wait (ring_step_of f x).stage (is_unoccupied f) v x) (ring_step_of f x)
-left_fits v f x h left =
-    follows_fit v _ f x h (over_follows stage.Start (is_broken (ring_step_of f x).stage) v (is_unoccupied f) x (ring_step_of f x).stage f.shape.order here (rw here refl) (λ path. refl) unmoved)
-  where
-    here : v.stage ≡ stage.Start
-    here = left_starts v.stage v f.stage h.goes left
-
-    goes : FrontGoesWith stage.Start v f.stage
-    goes = rw here at h.goes
-
-    unmoved : Follows v v (ring_step_of f x).stage f.shape.order
-    unmoved = record { goes = rw here (goes.0, left_goes f.stage f x refl left, goes.2); closing = refl; own = refl; ordered = h.ordered }

@@ -5,7 +5,6 @@ use Rattle.blk_base.specs.declared.ask.FrontAnswer.{FrontAnswer}
 use Rattle.blk_base.specs.declared.ask.FrontAnswer.TheVariants as answer
 use Rattle.blk_front.specs.declared.stage.FrontStage.{FrontStage}
 use Rattle.blk_front.specs.declared.stage.FrontStage.TheVariants as ring
-use Rattle.xenbus_state.specs.declared.keys.FrontKey.{FrontKey}
 use Rattle.xenbus_state.specs.declared.keys.BackKey.{BackKey}
 use Rattle.xenbus_state.specs.declared.keys.BackKey.TheVariants as key
 use Rattle.xenbus_state.specs.declared.state.BusState.{BusState}
@@ -21,7 +20,7 @@ use Rattle.xenbus_state.specs.Tables.{front_action, on_closing, on_gone, on_conn
 use Rattle.xenbus_state.specs.Programs.{next_feature, next_fact, next_published}
 use Rattle.xenbus_state.specs.Reading.{count_read, fact_read}
 use Rattle.xenbus_state.specs.FrontView.{FrontView, ring_order, pages_of, closed}
-use Rattle.xenbus_state.specs.FrontAsk.{leaving, closing_stage, due, ask_at, ask_of}
+use Rattle.xenbus_state.specs.FrontAsk.{due, ask_at, ask_of}
 use Rattle.xenbus_state.specs.FrontStep.{at, acted, after_feature, feature_step, after_fact, fact_step, after_state, after_grants, after_published, after, step_at, step_of}
 use Rattle.vbd_front.specs.View.{View}
 use Rattle.vbd_front.specs.View as view
@@ -29,8 +28,7 @@ use Rattle.vbd_front.specs.Ask as front
 use Rattle.vbd_front.specs.Step as front_step
 use Rattle.vbd_front.specs.Step.{settled_at, bus_told}
 use Rattle.vbd_model.specs.Fit.{IsServiceSaid, ReadsOffer}
-use Rattle.negotiation_laws.proofs.Choices.{closed_cases, either}
-use Rattle.vbd_laws.proofs.FitFrontBus.{due_cases}
+use Rattle.negotiation_laws.proofs.Choices.{closed_cases, either, due_cases}
 use Rattle.vbd_laws.proofs.FitSaid.{all_kept}
 
 -- what the negotiation becomes in a move of the front: it is told the answer, that all is done, or nothing
@@ -115,19 +113,7 @@ module _ (says : BackKey → Type 0) where
 
   fact_reads : (k : BackKey) (n : Option ℕ) (v : FrontView) → ReadsOffer says (fact_step k n v).stage
   fact_reads k None v = tt
-  fact_reads k (Some n) v = by_next (next_fact k)
-    where
-      by_next : (next : Option BackKey) → ReadsOffer says (after_fact next)
-      by_next None = tt
-      by_next (Some k) = tt
-
-  published_reads : (next : Option FrontKey) → ReadsOffer says (after_published next)
-  published_reads None = tt
-  published_reads (Some k) = tt
-
-  grants_read : (port : Option ℕ) → ReadsOffer says (after_grants port)
-  grants_read None = tt
-  grants_read (Some port) = tt
+  fact_reads k (Some n) v = elim (next_fact k) as (λ next. ReadsOffer says (after_fact next)) [ None ↦ tt | Some k ↦ tt ]
 
   state_reads : (s : BusState) → ReadsOffer says (after_state s)
   state_reads state.Closed = tt
@@ -137,9 +123,9 @@ module _ (says : BackKey → Type 0) where
   after_reads stage.Start v is = tt
   after_reads (stage.RingWord word) v is = either (ReadsOffer says) (word == 15) (stage.Grant 0) (stage.RingWord (word + 1)) tt tt
   after_reads (stage.Grant page) v is = either (ReadsOffer says) (nat_lt (page + 1) (pages_of v)) (stage.Grant (page + 1)) stage.NewPort tt tt
-  after_reads (stage.Publish k) v is = published_reads (next_published (ring_order v) k)
+  after_reads (stage.Publish k) v is = elim (next_published (ring_order v) k) as (λ next. ReadsOffer says (after_published next)) [ None ↦ tt | Some k ↦ tt ]
   after_reads (stage.EndGrant page) v is = either (ReadsOffer says) (nat_lt (page + 1) (pages_of v)) (stage.EndGrant (page + 1)) stage.EndOtherGrants tt tt
-  after_reads stage.EndOtherGrants v is = grants_read v.port
+  after_reads stage.EndOtherGrants v is = elim v.port as (λ port. ReadsOffer says (after_grants port)) [ None ↦ tt | Some port ↦ tt ]
   after_reads s v is = is
 
   -- where it reads the back's state, and that says what there is to read
@@ -160,17 +146,8 @@ module _ (says : BackKey → Type 0) where
   step_reads d v idle answer.Done may is = after_reads d (at d v) is
   step_reads d v idle x may is = is
 
-  leaving_reads : (gone : Bool) (port : Option ℕ) → ReadsOffer says (leaving gone port)
-  leaving_reads false port = tt
-  leaving_reads true None = tt
-  leaving_reads true (Some port) = tt
-
-  closing_reads : (own : BusState) (v : FrontView) → ReadsOffer says (closing_stage own v)
-  closing_reads state.Closing v = leaving_reads v.gone v.port
-  closing_reads own v = tt
-
   due_reads : (v : FrontView) (idle : Bool) → ReadsOffer says v.stage → ReadsOffer says (due v idle)
-  due_reads v idle is = due_cases (ReadsOffer says) v idle is (λ here closing is_idle. closing_reads v.state v)
+  due_reads v idle is = due_cases (ReadsOffer says) v.stage v idle is tt tt tt
 
   settled_reads : (b : FrontBusAsk) (u : FrontView) (idle : Bool) → ReadsOffer says u.stage → ReadsOffer says (settled_at b idle u).stage
   settled_reads ask.EndOtherGrants u idle is = step_reads (due u idle) u idle answer.Done (λ asks text e. absurd (cc)) (due_reads u idle is)

@@ -183,7 +183,7 @@ connects_settles offers v f idle here port ordered h =
     (settles_rest idle (record v { state = state.Connected; stage = stage.Rest }) (record f { offers = offers; stage = ring.Loop }) refl (λ e. refl) (refl, port)
     (record { goes = inl (refl, port); closing = λ whole. h.closing (rw here refl); through = λ e whole. absurd (cc); ordered = ordered }))
 
-bare_whole : (r : FrontStage) → is_bare r ≡ true → is_broken r ≡ false
+pub bare_whole : (r : FrontStage) → is_bare r ≡ true → is_broken r ≡ false
 bare_whole (ring.Broken word) bare = absurd (true≢false (sym bare))
 bare_whole r bare = refl
 

@@ -248,14 +248,10 @@ flag_offer : (b : Bool) → is_offer (decimal (flag_of b)) ≡ b
 flag_offer true = number_offer 1 (omega arith)
 flag_offer false = number_offer 0 (omega arith)
 
-like : (b : Bool) → is_like b b ≡ true
-like true = refl
-like false = refl
-
 offered : (text : Option (List ℕ)) (n : ℕ) (b has : Bool) → text ≡ Some (decimal n) → is_offer (decimal n) ≡ b → has ≡ b → is_like (offers text) has ≡ true
 offered text n b has says is same =
     subst (λ (o : Option (List ℕ)). is_like (offers o) has ≡ true) (sym says)
-    (subst (λ (c : Bool). is_like (is_offer (decimal n)) c ≡ true) (sym same) (subst (λ (c : Bool). is_like c b ≡ true) (sym is) (like b)))
+    (subst (λ (c : Bool). is_like (is_offer (decimal n)) c ≡ true) (sym same) (subst (λ (c : Bool). is_like c b ≡ true) (sym is) (elim b as (λ b. is_like b b ≡ true) [ true ↦ refl | false ↦ refl ])))
 
 all_true : (a b c d : Bool) → a ≡ true → b ≡ true → c ≡ true → d ≡ true → (a && b && c && d) ≡ true
 all_true true true true true p q r s = refl

@@ -54,14 +54,6 @@ both_none : (connected b : Bool) (n : ℕ) → reason_shown (action_halt (if b t
 both_none connected true n = refl
 both_none connected false n = refl
 
-three_none : (b : Bool) → state_halt b (Some 3) ≡ None
-three_none true = refl
-three_none false = refl
-
-four_none : (b : Bool) → state_halt b (Some 4) ≡ None
-four_none true = refl
-four_none false = refl
-
 gone_shown : (b : Bool) (s : BusState) → reason_shown (action_halt (front_gone b s)) ≡ halt_shown (lines.Halt (ring_halt (why.Gone s)))
 gone_shown true s = refl
 gone_shown false s = refl
@@ -70,8 +62,8 @@ pub state_due : (own : BusState) (b connected : Bool) (said : Option BusState) �
 state_due own b connected None same = refl
 state_due own b connected (Some state.Initialising) same = either_due connected (is_connected own) same
 state_due own b connected (Some state.InitWait) same = refl
-state_due own b connected (Some state.Initialised) same = both_none connected (is_connected own) 3 ∙ sym (three_none connected)
-state_due own b connected (Some state.Connected) same = both_none connected (is_connected own) 4 ∙ sym (four_none connected)
+state_due own b connected (Some state.Initialised) same = both_none connected (is_connected own) 3 ∙ sym (elim connected as (λ b. state_halt b (Some 3) ≡ None) [ true ↦ refl | false ↦ refl ])
+state_due own b connected (Some state.Connected) same = both_none connected (is_connected own) 4 ∙ sym (elim connected as (λ b. state_halt b (Some 4) ≡ None) [ true ↦ refl | false ↦ refl ])
 state_due own b connected (Some state.Closing) same = gone_shown b state.Closing
 state_due own b connected (Some state.Closed) same = gone_shown b state.Closed
 state_due own b connected (Some state.Unknown) same = gone_shown b state.Unknown

@@ -31,6 +31,8 @@ use Rattle.xenbus_state.specs.BackStep.{at, acted, kept_or_halted, last_state, u
 use Rattle.vbd_back.specs.Ask as back
 use Rattle.negotiation_laws.specs.Negotiation.{front_path}
 use Rattle.vbd_laws.specs.Halts.{is_gone, BackSight, with_read, with_set}
+use Rattle.vbd_laws.proofs.FitBackBus.{last_halts}
+use Rattle.line_text.proofs.Both.{both_true}
 
 -- the back closes (5), is closed (6), or has no state (0)
 abbrev pub is_late : BusState → Bool
@@ -78,14 +80,10 @@ goes_to v s next here running = record { order = refl; going = λ on. ap is_halt
 pub halts_on : (v u : BackView) → u.terms.order ≡ v.terms.order → is_halting u.stage ≡ true → u.state ≡ v.state → u.unplugged ≡ v.unplugged → Keeps v u
 halts_on v u order halts state asked = record { order = order; going = λ on. absurd (true≢false (sym halts ∙ on)); state = state; asked = asked }
 
-halting_last : (own : BusState) → is_halting (stage.WriteState (last_state own)) ≡ true
-halting_last state.Closing = refl
-halting_last own = refl
-
 unmapping_halts : (pages : List Mapping) (bound : Bool) (own : BusState) → is_halting (unmapping_next pages bound own) ≡ true
 unmapping_halts (page ∷ pages) bound own = refl
 unmapping_halts [] true own = refl
-unmapping_halts [] false own = halting_last own
+unmapping_halts [] false own = last_halts own
 
 -- what its negotiation is told where it doesn't speak
 pub speaks_none : (pages : List Mapping) → back.speaks (unmap_ask pages) ≡ false
@@ -107,7 +105,7 @@ silent_at stage.Bind v answer.BindRefused here quiet = halts_on v (halted v) ref
 silent_at stage.UnmapOthers v answer.Done here quiet = halts_on v (at (unmapping_next v.pages v.bound v.state) v) refl (unmapping_halts v.pages v.bound v.state) refl refl
 silent_at stage.UnmapPage v answer.Done here quiet =
     halts_on v (record v { pages = other_pages v.pages; stage = unmapping_next (other_pages v.pages) v.bound v.state }) refl (unmapping_halts (other_pages v.pages) v.bound v.state) refl refl
-silent_at stage.ClosePort v answer.Done here quiet = halts_on v (record v { bound = false; stage = stage.WriteState (last_state v.state) }) refl (halting_last v.state) refl refl
+silent_at stage.ClosePort v answer.Done here quiet = halts_on v (record v { bound = false; stage = stage.WriteState (last_state v.state) }) refl (last_halts v.state) refl refl
 silent_at s v x here quiet = keeps_same v
 
 pub silent_step : (v : BackView) (x : BackAnswer) → back.speaks (ask_of v) ≡ false → Keeps v (step_of v x)
@@ -126,10 +124,6 @@ says_when s own says = absurd (true≢false (sym says))
 pub both_says : (a b : Bool) → (a && b) ≡ true → b ≡ true
 both_says true b e = e
 both_says false b e = absurd (true≢false (sym e))
-
-both_asks : (a b : Bool) → (a && b) ≡ true → a ≡ true
-both_asks true b e = refl
-both_asks false b e = e
 
 pub says_not : (v : BackView) → is_halting v.stage ≡ true → says_closing v ≡ false
 says_not v halts = by_test (says_closing v) refl
@@ -225,7 +219,7 @@ state_known asked k s v here placed has = absurd placed
 pub says_known : (asked : Bool) (k : BackSight) (v : BackView) → says_closing v ≡ true → Knows asked k v → Knows asked (with_set k back.own_state (decimal (state_number state.Closing))) (record v { state = state.Closing })
 says_known asked k v says has =
     let is = says_when v.stage v.state (both_says v.unplugged (says_closing_at v.stage v.state) says) in
-    let known : Knows asked k (record v { state = state.Closing }) = record { order = has.order; connected = λ on. has.connected on ∙ ap is_connected is.1; closing = has.closing; halted = has.halted; early = λ on unasked. absurd (true≢false (sym (both_asks v.unplugged (says_closing_at v.stage v.state) says) ∙ (sym (has.closing on) ∙ unasked))) } in
+    let known : Knows asked k (record v { state = state.Closing }) = record { order = has.order; connected = λ on. has.connected on ∙ ap is_connected is.1; closing = has.closing; halted = has.halted; early = λ on unasked. absurd (true≢false (sym (both_true v.unplugged (says_closing_at v.stage v.state) says).0 ∙ (sym (has.closing on) ∙ unasked))) } in
     written asked k state.Closing _ (omega arith) known
 
 -- another key of its own

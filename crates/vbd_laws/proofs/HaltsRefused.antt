@@ -76,11 +76,7 @@ port_halt None = Some (halts.BadKey (codes "event-channel"))
 port_halt (Some n) = None
 
 port_halts : (text : List ℕ) → key_halt 0 (key_at (front_path key.EventChannel)) (Some text) ≡ port_halt (number_of text)
-port_halts text = ap (λ k. key_halt 0 k (Some text)) port_found ∙ by_number (number_of text)
-  where
-    by_number : (n : Option ℕ) → (if is_none n then Some (halts.BadKey (codes "event-channel")) else None) ≡ port_halt n
-    by_number None = refl
-    by_number (Some n) = refl
+port_halts text = ap (λ k. key_halt 0 k (Some text)) port_found ∙ (elim (number_of text) as (λ n. (if is_none n then Some (halts.BadKey (codes "event-channel")) else None) ≡ port_halt n) [ None ↦ refl | Some n ↦ refl ])
 
 pub good_port : (config : Options) → HaltsByCauses (halted_by_a_port config) → ⊥
 good_port config h =

@@ -2,6 +2,7 @@ pub mod FitFrontRing
 pub mod FitFrontBus
 pub mod FitFrontSpoken
 pub mod FitFrontMoves
+pub mod FitFrontFollows
 pub mod FitFrontClose
 pub mod FitFrontTerms
 pub mod FitBackRing
@@ -9,6 +10,7 @@ pub mod FitBackBus
 pub mod FitBackKept
 pub mod FitBackMoves
 pub mod FitBackShares
+pub mod FitBackFollows
 pub mod FitChannels
 pub mod MovesTurns
 pub mod KeysSet
@@ -23,6 +25,7 @@ pub mod MovesMay
 pub mod MovesFront
 pub mod MovesBack
 pub mod NegotiatedRun
+pub mod NegotiatedQuiet
 pub mod NegotiatedFront
 pub mod NegotiatedBack
 pub mod NegotiatedRests
@@ -33,6 +36,7 @@ pub mod NegotiatedAgreed
 pub mod NegotiatedKept
 pub mod NegotiatedEarly
 pub mod NegotiatedWay
+pub mod NegotiatedAnew
 pub mod NegotiatedMaps
 pub mod ServedBack
 pub mod Offered
@@ -41,6 +45,9 @@ pub mod ServedPossible
 pub mod ServedPort
 pub mod ServedGone
 pub mod ServedHonest
+pub mod ServedGiven
+pub mod ServedMaps
+pub mod ServedRun
 pub mod Served
 pub mod Quiet
 pub mod BreaksPlaced
@@ -61,8 +68,11 @@ pub mod StateLinesMoves
 pub mod StateLines
 pub mod StateLinesRefused
 pub mod StateLinesAsked
+pub mod WaitsChecks
 pub mod WaitsFrontRing
+pub mod WaitsFrontEnters
 pub mod WaitsFront
+pub mod WaitsFrontStages
 pub mod WaitsFrontCases
 pub mod WaitsFrontHeard
 pub mod WaitsFrontTold

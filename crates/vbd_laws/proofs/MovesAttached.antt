@@ -35,6 +35,7 @@ use Rattle.vbd_back.specs.Step as back_step
 use Rattle.vbd_model.specs.World.{World, backend_of}
 use Rattle.vbd_model.specs.Fit.{SaysKey, SaidAt, IsFit}
 use Rattle.vbd_model.specs.Happening.{back_turn, halted_at, reasons_of, back_bus_after, is_none, attaches}
+use Rattle.line_text.proofs.Both.{both_true}
 use Rattle.vbd_laws.proofs.FitBackBus.{told_at}
 use Rattle.vbd_laws.proofs.FitBackShares.{IsAlike, settled_alike}
 use Rattle.vbd_laws.proofs.FitSaid.{served_said}
@@ -174,10 +175,6 @@ all_true true true false fits all = absurd (true≢false (sym all))
 all_true true false none fits all = absurd (true≢false (sym all))
 all_true false reads none fits all = absurd (true≢false (sym all))
 
-first_true : (may layout served : Bool) → (may && layout && served) ≡ true → may ≡ true
-first_true true layout served all = refl
-first_true false layout served all = all
-
 no_reason : (halt : Option BackHalt) → is_none (reasons_of halt) ≡ true → halt ≡ None
 no_reason None none = refl
 no_reason (Some why) none = absurd (true≢false (sym none))
@@ -191,7 +188,7 @@ taken w a said takes =
     let test = sym (test_is w a said) ∙ takes in
     let all = all_true true (back_step.reads_layout (back_asks w)) (is_none (reasons_of (halt_of w.back a.answer))) (ring.attaches_at w.rings (back_step.shape_read u) u.grefs) test in
     let none = no_reason (halt_of w.back a.answer) all.1 in
-    let may = first_true (ring_step.may_attach (back_step.shape_read u) u.grefs w.rings.back) (is_layout (back_step.shape_read u).abi (ring.layout_text w.rings)) _ all.2 in
+    let may = (both_true (ring_step.may_attach (back_step.shape_read u) u.grefs w.rings.back) _ (both_true _ _ all.2).0).0 in
     let goes : ring.attaches_at w.rings (back_step.shape_read b) b.grefs ≡ true =
     ap (λ (s : Shape). ring.attaches_at w.rings s b.grefs) shape ∙ (ap (λ (grefs : List ℕ). ring.attaches_at w.rings (back_step.shape_read u) grefs) same.grefs ∙ all.2) in
     let led = (ap (λ (h : Option BackHalt). back_step.ring_led h (back_step.reads_layout (back_asks w)) u w.rings.back) none

@@ -53,7 +53,7 @@ use Rattle.vbd_back.specs.View as back_view
 use Rattle.vbd_back.specs.Ask as back
 use Rattle.vbd_back.specs.Step as back_step
 use Rattle.vbd_model.specs.World.{World, backend_of}
-use Rattle.vbd_model.specs.Happening.{BackMoves, back_key, halted_at, reasons_of, attaches, back_does, back_turn, back_bus_after, DiskGoes}
+use Rattle.vbd_model.specs.Happening.{happens, BackMoves, back_key, halted_at, reasons_of, attaches, back_does, back_turn, back_bus_after, DiskGoes}
 use Rattle.vbd_model.specs.Fit.{BackGoesWith, IsFit}
 use Rattle.vbd_laws.specs.Moves.{IsBackMove, IsNoMove}
 use Rattle.vbd_laws.proofs.MovesAttached.{halted_only, all_halt, IsSaid, layout_asked, not_led, taken}
@@ -298,3 +298,15 @@ back_move_none w fit e =
       lines = is.1;
       disk = calls_none w;
     }
+
+-- the machine after a move of the back that made this of it
+abbrev pub back_to : World → BackAct → back_view.View → World
+back_to w a x = record { rings = record { front = w.rings.front; back = (back_view.heard x).ring; under = a.under }; front = w.front; back = x.bus }
+
+-- what is true after each act of the back, and where it has none, is true after its move
+pub after_back_move : (P : Option BackAct → World → Type 0) (w : World) → IsFit w → P None w → ((a : BackAct) → back_turn w ≡ Some a → P (Some a) (back_to w a (back_step.step_of (backend_of w) a.answer))) → P (back_turn w) (happens w BackMoves)
+after_back_move P w fit none some = by_act (back_turn w) refl
+  where
+    by_act : (act : Option BackAct) → back_turn w ≡ act → P act (happens w BackMoves)
+    by_act None e = let still : IsNoMove w BackMoves = back_move_none w fit e in subst (P None) (sym still.world) none
+    by_act (Some a) e = let moved : IsBackMove w a = back_move_is w a fit e in subst (P (Some a)) (sym moved.world) (some a e)

@@ -42,7 +42,7 @@ use Rattle.vbd_front.specs.View as front_view
 use Rattle.vbd_front.specs.Ask as front
 use Rattle.vbd_front.specs.Step as front_step
 use Rattle.vbd_model.specs.World.{World, frontend_of}
-use Rattle.vbd_model.specs.Happening.{FrontMoves, front_key, entered_at, front_does, front_turn, front_bus_after, DiskGoes}
+use Rattle.vbd_model.specs.Happening.{happens, FrontMoves, front_key, entered_at, front_does, front_turn, front_bus_after, DiskGoes}
 use Rattle.vbd_model.specs.News.{news_line, news_lines}
 use Rattle.vbd_model.specs.Fit.{IsFit}
 use Rattle.vbd_laws.specs.Moves.{IsFrontMove, IsClose, IsNoMove}
@@ -252,6 +252,18 @@ front_move_none w fit e =
   where
     with_bus : rings.World → FrontView → World
     with_bus r u = record { rings = r; front = u; back = w.back }
+
+-- the machine after a move of the front that made this of it
+abbrev pub front_to : World → FrontAct → front_view.View → World
+front_to w a x = record { rings = record { front = (front_view.heard x).ring; back = w.rings.back; under = a.under }; front = x.bus; back = w.back }
+
+-- what is true after each act of the front, and where it has none, is true after its move
+pub after_front_move : (P : Option FrontAct → World → Type 0) (w : World) → IsFit w → P None w → ((a : FrontAct) → front_turn w ≡ Some a → P (Some a) (front_to w a (front_step.step_of (frontend_of w) a.answer))) → P (front_turn w) (happens w FrontMoves)
+after_front_move P w fit none some = by_act (front_turn w) refl
+  where
+    by_act : (act : Option FrontAct) → front_turn w ≡ act → P act (happens w FrontMoves)
+    by_act None e = let still : IsNoMove w FrontMoves = front_move_none w fit e in subst (P None) (sym still.world) none
+    by_act (Some a) e = let moved : IsFrontMove w a = front_move_is w a fit e in subst (P (Some a)) (sym moved.world) (some a e)
 
 -- the front is asked to close
 close_shows : (may : Bool) → (if may then state_lines enter.Closing else []) ≡ news_lines (if may then Some news.Closing else None)

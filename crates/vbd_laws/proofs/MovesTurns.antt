@@ -14,6 +14,7 @@ use Rattle.hypervisor.specs.Hypervisor.{Hypervisor}
 use Rattle.hypervisor.specs.Act.{FrontAct, BackAct, Took, front_act, back_act}
 use Rattle.blk_front.specs.declared.state.FrontState.{FrontState}
 use Rattle.blk_front.specs.Ask as front_ring
+use Rattle.blk_front.specs.Submit.{is_wait}
 use Rattle.blk_back.specs.declared.stage.BackStage.{BackStage}
 use Rattle.blk_back.specs.declared.stage.BackStage.TheVariants as back_ring_stage
 use Rattle.blk_base.specs.declared.halt.Halt.{Halt}
@@ -22,6 +23,10 @@ use Rattle.xenbus_state.specs.declared.front.FrontBusAsk.{FrontBusAsk}
 use Rattle.xenbus_state.specs.declared.front.FrontBusAsk.TheVariants as front_bus
 use Rattle.xenbus_state.specs.declared.back.BackBusAsk.{BackBusAsk}
 use Rattle.xenbus_state.specs.declared.back.BackBusAsk.TheVariants as back_bus
+use Rattle.xenbus_state.specs.declared.state.BusState.{BusState}
+use Rattle.xenbus_state.specs.declared.keys.FrontKey.{FrontKey}
+use Rattle.xenbus_state.specs.declared.keys.BackKey.{BackKey}
+use Rattle.xenbus_state.specs.declared.values.KeyValue.{KeyValue}
 use Rattle.xenbus_state.specs.BackView.{BackView}
 use Rattle.xenbus_state.specs.FrontAsk as front_bus_ends
 use Rattle.xenbus_state.specs.BackAsk as back_bus_ends
@@ -129,37 +134,55 @@ quiet_back (back_bus.SetState s) quiet = absurd (true≢false quiet)
 quiet_back (back_bus.SetKey key value) quiet = absurd (true≢false quiet)
 quiet_back a quiet = refl
 
--- where the back's negotiation and its end of the ring wait, the negotiation doesn't speak: one that does leaves the move to an end that is within a step
-within : (s : BackStage) → back.is_between s ≡ false → back.ring_moves back_bus.Wait s ≡ true
-within back_ring_stage.InitWait mid = absurd (true≢false mid)
-within back_ring_stage.MapRing mid = absurd (true≢false mid)
-within back_ring_stage.Bind mid = absurd (true≢false mid)
-within s mid = refl
+-- what is true of each ask for a watch, a state or a key is true of what a negotiation that speaks asks
+pub front_spoken : (P : FrontBusAsk → Type 0) → P front_bus.Watch → P front_bus.GetState → ((key : BackKey) → P (front_bus.GetKey key)) → ((s : BusState) → P (front_bus.SetState s)) → ((key : FrontKey) (value : KeyValue) → P (front_bus.SetKey key value))
+    → (a : FrontBusAsk) → front.speaks a ≡ true → P a
+front_spoken P watch state key sets writes front_bus.Watch says = watch
+front_spoken P watch state key sets writes front_bus.GetState says = state
+front_spoken P watch state key sets writes (front_bus.GetKey k) says = key k
+front_spoken P watch state key sets writes (front_bus.SetState s) says = sets s
+front_spoken P watch state key sets writes (front_bus.SetKey k value) says = writes k value
+front_spoken P watch state key sets writes a says = absurd (true≢false (sym says))
 
+pub back_spoken : (P : BackBusAsk → Type 0) → P back_bus.Watch → P back_bus.GetState → ((key : FrontKey) → P (back_bus.GetKey key)) → ((s : BusState) → P (back_bus.SetState s)) → ((key : BackKey) (value : KeyValue) → P (back_bus.SetKey key value))
+    → (a : BackBusAsk) → back.speaks a ≡ true → P a
+back_spoken P watch state key sets writes back_bus.Watch says = watch
+back_spoken P watch state key sets writes back_bus.GetState says = state
+back_spoken P watch state key sets writes (back_bus.GetKey k) says = key k
+back_spoken P watch state key sets writes (back_bus.SetState s) says = sets s
+back_spoken P watch state key sets writes (back_bus.SetKey k value) says = writes k value
+back_spoken P watch state key sets writes a says = absurd (true≢false (sym says))
+
+-- no such ask is a wait
+pub front_key_asks : (a : FrontBusAsk) → front.speaks a ≡ true → is_wait (front.key_ask a) ≡ false
+front_key_asks = front_spoken (λ a. is_wait (front.key_ask a) ≡ false) refl refl (λ key. refl) (λ s. refl) (λ key value. refl)
+
+pub back_key_asks : (a : BackBusAsk) → back.speaks a ≡ true → back_ring.is_wait (back.key_ask a) ≡ false
+back_key_asks = back_spoken (λ a. back_ring.is_wait (back.key_ask a) ≡ false) refl refl (λ key. refl) (λ s. refl) (λ key value. refl)
+
+-- a back's negotiation that speaks leaves the move to an end of the ring that is within a step
+pub within_moves : (a : BackBusAsk) (s : BackStage) → back.speaks a ≡ true → back.is_between s ≡ false → back.ring_moves a s ≡ true
+within_moves a back_ring_stage.InitWait says within = absurd (true≢false within)
+within_moves a back_ring_stage.MapRing says within = absurd (true≢false within)
+within_moves a back_ring_stage.Bind says within = absurd (true≢false within)
+within_moves a s says within = back_spoken (λ b. back.ring_moves b s ≡ true) refl refl (λ key. refl) (λ own. refl) (λ key value. refl) a says
+
+-- so it doesn't speak where both wait
 pub waits_quiet : (a : BackBusAsk) (s : BackStage) → back.bus_moves a s ≡ false → back.ring_moves a s ≡ false → back.speaks a ≡ false
-waits_quiet back_bus.Watch s quiet still = absurd (true≢false (sym (within s quiet) ∙ still))
-waits_quiet back_bus.GetState s quiet still = absurd (true≢false (sym (within s quiet) ∙ still))
-waits_quiet (back_bus.GetKey key) s quiet still = absurd (true≢false (sym (within s quiet) ∙ still))
-waits_quiet (back_bus.SetState own) s quiet still = absurd (true≢false (sym (within s quiet) ∙ still))
-waits_quiet (back_bus.SetKey key value) s quiet still = absurd (true≢false (sym (within s quiet) ∙ still))
-waits_quiet a s quiet still = refl
+waits_quiet a s quiet still = by_test (back.speaks a) refl
+  where
+    by_test : (says : Bool) → back.speaks a ≡ says → back.speaks a ≡ false
+    by_test true says = absurd (true≢false (sym (within_moves a s says (sym (ap (λ (b : Bool). b && back.is_between s) says) ∙ quiet)) ∙ still))
+    by_test false says = says
 
 -- a negotiation that speaks is answered at once
 pub front_speaks : (h : Hypervisor) (a : FrontBusAsk) → front.speaks a ≡ true → front_act h (front.key_ask a) ≢ None
-front_speaks h front_bus.Watch says e = none-some _ (sym e)
-front_speaks h front_bus.GetState says e = none-some _ (sym e)
-front_speaks h (front_bus.GetKey key) says e = none-some _ (sym e)
-front_speaks h (front_bus.SetState s) says e = none-some _ (sym e)
-front_speaks h (front_bus.SetKey key value) says e = none-some _ (sym e)
-front_speaks h a says e = true≢false (sym says)
+front_speaks h =
+    front_spoken (λ a. front_act h (front.key_ask a) ≢ None) (λ e. none-some _ (sym e)) (λ e. none-some _ (sym e)) (λ key e. none-some _ (sym e)) (λ s e. none-some _ (sym e)) (λ key value e. none-some _ (sym e))
 
 pub back_speaks : (h : Hypervisor) (a : BackBusAsk) → back.speaks a ≡ true → back_act h back_mover.Back (back.key_ask a) Took ≢ None
-back_speaks h back_bus.Watch says e = none-some _ (sym e)
-back_speaks h back_bus.GetState says e = none-some _ (sym e)
-back_speaks h (back_bus.GetKey key) says e = none-some _ (sym e)
-back_speaks h (back_bus.SetState s) says e = none-some _ (sym e)
-back_speaks h (back_bus.SetKey key value) says e = none-some _ (sym e)
-back_speaks h a says e = true≢false (sym says)
+back_speaks h =
+    back_spoken (λ a. back_act h back_mover.Back (back.key_ask a) Took ≢ None) (λ e. none-some _ (sym e)) (λ e. none-some _ (sym e)) (λ key e. none-some _ (sym e)) (λ s e. none-some _ (sym e)) (λ key value e. none-some _ (sym e))
 
 -- what a negotiation is answered is of its ask's kind
 pub front_told : (h : Hypervisor) (a : FrontBusAsk) (x : FrontAct) → front.speaks a ≡ true → front_act h (front.key_ask a) ≡ Some x → front_bus_ends.IsAnswer a x.answer

@@ -1,6 +1,5 @@
 -- When the front begins its ring; what it knows of its back as it connects; and that its end of the ring keeps the order that it has.
-use Rattle.std.proofs.Common.{◌≡◌, ◌∙◌, ap, sym, subst, ℕ, ◌≤◌, Bool, true, false, true≢false, refl, arith}
-use Rattle.std.specs.Prelude.{Option, Some, None}
+use Rattle.std.proofs.Common.{◌≡◌, ◌∙◌, ap, sym, subst, ℕ, Bool, true, false, true≢false, refl}
 use Rattle.blk_front.specs.declared.state.FrontState.{FrontState}
 use Rattle.blk_front.specs.declared.state.FrontState.TheVariants as enter
 use Rattle.blk_front.specs.View as ends
@@ -13,14 +12,13 @@ use Rattle.xenbus_state.specs.declared.offer.Features.{Features}
 use Rattle.xenbus_state.specs.declared.offer.DiskFacts.{DiskFacts}
 use Rattle.xenbus_state.specs.declared.front.FrontBusAsk.{FrontBusAsk}
 use Rattle.xenbus_state.specs.declared.front.FrontBusAsk.TheVariants as ask
-use Rattle.xenbus_state.specs.States.{state_number}
 use Rattle.xenbus_state.specs.FrontView.{FrontView}
-use Rattle.xenbus_state.specs.FrontAsk.{leaving, closing_stage, due, ask_at, ask_of}
+use Rattle.xenbus_state.specs.FrontAsk.{due, ask_at, ask_of}
 use Rattle.split_model.proofs.States.{enters_cases}
 use Rattle.negotiation_laws.specs.Negotiation.{Negotiation}
 use Rattle.negotiation_laws.proofs.Subjects.{FrontRead}
 use Rattle.negotiation_laws.proofs.Found.{run_holds}
-use Rattle.vbd_laws.proofs.FitFrontBus.{due_cases}
+use Rattle.negotiation_laws.proofs.Choices.{due_cases}
 use Rattle.vbd_laws.proofs.NegotiatedRun.{Reached}
 
 -- the ring is begun, or the next that is asked for is a word of it
@@ -36,19 +34,10 @@ begun_at : (d : FrontBusStage) (v : FrontView) → begins (ask_at d v) ≡ true 
 begun_at (stage.RingWord word) v e = refl
 begun_at d v e = absurd (true≢false (sym e))
 
-leaving_begins : (gone : Bool) (port : Option ℕ) (v : FrontView) → begins (ask_at (leaving gone port) v) ≡ false
-leaving_begins false port v = refl
-leaving_begins true None v = refl
-leaving_begins true (Some p) v = refl
-
-closing_begins : (own : BusState) (v : FrontView) → begins (ask_at (closing_stage own v) v) ≡ false
-closing_begins state.Closing v = leaving_begins v.gone v.port v
-closing_begins own v = refl
-
 pub begun_now : (v : FrontView) (idle : Bool) → begins (ask_of v idle) ≡ true → is_begun v.stage ≡ true
 begun_now v idle =
-    due_cases (λ (d : FrontBusStage). begins (ask_at d v) ≡ true → is_begun v.stage ≡ true) v idle (begun_at v.stage v)
-    (λ here closing is_idle e. absurd (true≢false (sym e ∙ closing_begins v.state v)))
+    due_cases (λ (d : FrontBusStage). begins (ask_at d v) ≡ true → is_begun v.stage ≡ true) v.stage v idle (begun_at v.stage v)
+    (λ e. absurd (true≢false (sym e))) (λ e. absurd (true≢false (sym e))) (λ e. absurd (true≢false (sym e)))
 
 -- a front that connects has read all that its back offers, and the disk that it publishes
 abbrev connects : FrontBusStage → Bool
@@ -67,20 +56,10 @@ offer_read n j =
     let h = run_holds j.run in
     subst HasOffer j.stands (λ is. let all = read_all _ _ _ _ _ _ is h.front.read in (all.0 ∙ sym h.back.offer, all.1 ∙ sym h.back.disk))
 
-leaving_writes : (gone : Bool) (port : Option ℕ) (own : BusState) → leaving gone port ≡ stage.WriteState own → 5 ≤ state_number own
-leaving_writes false port own e = absurd (cc)
-leaving_writes true None own e = absurd (cc)
-leaving_writes true (Some p) own e = absurd (cc)
-
-closing_writes : (s : BusState) (v : FrontView) (own : BusState) → closing_stage s v ≡ stage.WriteState own → 5 ≤ state_number own
-closing_writes state.Closing v own e = leaving_writes v.gone v.port own e
-closing_writes s v own e = let same : state.Closing ≡ own = cc in subst (λ (s : BusState). 5 ≤ state_number s) same (omega arith)
-
 -- so one that connects knows what its back serves, and its disk
-connecting : (v : FrontView) (idle : Bool) → due v idle ≡ stage.WriteState state.Connected → v.stage ≡ stage.WriteState state.Connected
+pub connecting : (v : FrontView) (idle : Bool) → due v idle ≡ stage.WriteState state.Connected → v.stage ≡ stage.WriteState state.Connected
 connecting v idle =
-    due_cases (λ (d : FrontBusStage). d ≡ stage.WriteState state.Connected → v.stage ≡ stage.WriteState state.Connected) v idle (λ e. e)
-    (λ here closing is_idle e. absurd (let late = closing_writes v.state v state.Connected e in omega arith))
+    due_cases (λ (d : FrontBusStage). d ≡ stage.WriteState state.Connected → v.stage ≡ stage.WriteState state.Connected) v.stage v idle (λ e. e) (λ e. absurd (cc)) (λ e. absurd (cc)) (λ e. absurd (cc))
 
 pub connects_knowing : (n : Negotiation) (idle : Bool) → Reached n → due n.front idle ≡ stage.WriteState state.Connected → (n.front.features ≡ n.back.features) × (n.front.disk ≡ n.back.disk)
 connects_knowing n idle j e = offer_read n j (ap connects (connecting n.front idle e))

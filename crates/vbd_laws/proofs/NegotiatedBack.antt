@@ -32,7 +32,7 @@ use Rattle.xenbus_state.specs.declared.back.BackBusAsk.{BackBusAsk}
 use Rattle.xenbus_state.specs.declared.back.BackBusAsk.TheVariants as bus_ask
 use Rattle.xenbus_state.specs.BackView.{BackView, is_halting, halted}
 use Rattle.xenbus_state.specs.BackAsk.{ask_of, ask_at, says_closing, unmap_ask}
-use Rattle.xenbus_state.specs.BackStep.{step_of, step_at, after_state, last_state, unmapping_next, other_pages}
+use Rattle.xenbus_state.specs.BackStep.{step_of, step_at, after_state, unmapping_next, other_pages}
 use Rattle.split_model.proofs.SafeActs.{of_back}
 use Rattle.split_model.proofs.Acting.{BackWatched, BackSet, BackWatch, back_acts}
 use Rattle.split_model.proofs.SafeAnswers.{IsBacks, backs_of}
@@ -47,7 +47,10 @@ use Rattle.vbd_model.specs.World.{World, backend_of}
 use Rattle.vbd_model.specs.Happening.{back_turn, is_backs_ring}
 use Rattle.vbd_model.specs.Fit.{IsAborting, IsUnmapping, BackGoesWith, BackHolds, IsFit}
 use Rattle.negotiation_laws.proofs.Choices.{either}
+use Rattle.line_text.proofs.Both.{both_true}
 use Rattle.vbd_laws.proofs.NegotiatedRun.{negotiation_of, Reached, Joined, reached_one}
+use Rattle.vbd_laws.proofs.MovesTurns.{waits_quiet}
+use Rattle.vbd_laws.proofs.FitBackBus.{last_halts}
 
 -- the negotiation with this back, over these keys
 abbrev pub with_back : Negotiation → BackView → Directory → Negotiation
@@ -206,20 +209,16 @@ state_halting state.Closing is = refl
 state_halting state.Closed is = refl
 state_halting s is = absurd (true≢false (sym is))
 
-last_halting : (s : BusState) → is_halting (stage.WriteState (last_state s)) ≡ true
-last_halting state.Closing = refl
-last_halting s = refl
-
 up_halting : (pages : List Mapping) (bound : Bool) (s : BusState) → is_halting (unmapping_next pages bound s) ≡ true
 up_halting (page ∷ pages) bound s = refl
 up_halting [] true s = refl
-up_halting [] false s = last_halting s
+up_halting [] false s = last_halts s
 
 step_halting : (s : BackBusStage) (v : BackView) (x : BackAnswer) → v.stage ≡ s → is_halting s ≡ true → is_halting (step_at s v x).stage ≡ true
 step_halting (stage.WriteState s) v answer.Done here is = state_halting s is
 step_halting stage.UnmapOthers v answer.Done here is = up_halting v.pages v.bound v.state
 step_halting stage.UnmapPage v answer.Done here is = up_halting (other_pages v.pages) v.bound v.state
-step_halting stage.ClosePort v answer.Done here is = last_halting v.state
+step_halting stage.ClosePort v answer.Done here is = last_halts v.state
 step_halting stage.Halted v x here is = rw here refl
 step_halting (stage.Publish k) v x here is = absurd (true≢false (sym is))
 step_halting stage.Watch v x here is = absurd (true≢false (sym is))
@@ -259,19 +258,8 @@ halted_same (Some why) v is = by_test (is_halting v.stage) (is refl)
 abbrev IsStuck : BackBusAsk → BackStage → Type 0
 IsStuck b r = b ≡ bus_ask.Wait
 
-speaks_ring : (b : BackBusAsk) (r : BackStage) → speaks b ≡ true → is_between r ≡ false → ring_moves b r ≡ true
-speaks_ring b ring_stage.InitWait says within = absurd (true≢false within)
-speaks_ring b ring_stage.MapRing says within = absurd (true≢false within)
-speaks_ring b ring_stage.Bind says within = absurd (true≢false within)
-speaks_ring bus_ask.Watch r says within = refl
-speaks_ring bus_ask.GetState r says within = refl
-speaks_ring (bus_ask.GetKey key) r says within = refl
-speaks_ring (bus_ask.SetState own) r says within = refl
-speaks_ring (bus_ask.SetKey key value) r says within = refl
-speaks_ring b r says within = absurd (true≢false (sym says))
-
 says_stuck : (b : BackBusAsk) (r : BackStage) → speaks b ≡ true → bus_moves b r ≡ false → ring_moves b r ≡ false → IsStuck b r
-says_stuck b r says quiet still = absurd (true≢false (sym (speaks_ring b r says (sym (ap (λ (c : Bool). c && is_between r) says) ∙ quiet)) ∙ still))
+says_stuck b r says quiet still = absurd (true≢false (sym says ∙ waits_quiet b r quiet still))
 
 moves_stuck : (b : BackBusAsk) (r : BackStage) → ring_moves b r ≡ true → ring_moves b r ≡ false → IsStuck b r
 moves_stuck b r moves still = absurd (true≢false (sym moves ∙ still))
@@ -309,10 +297,6 @@ stuck_of v r fits = by_test (says_closing v)
     by_test : (c : Bool) → (let b : BackBusAsk = if c then bus_ask.SetState state.Closing else ask_at v.stage v in bus_moves b r ≡ false → ring_moves b r ≡ false → IsStuck b r)
     by_test true = says_stuck (bus_ask.SetState state.Closing) r refl
     by_test false = stuck_at v.stage v r fits
-
-both_first : (p q : Bool) → (p && q) ≡ true → p ≡ true
-both_first true q e = refl
-both_first false q e = e
 
 -- a back that unmaps a page of the ring has one
 unmapping_some : (s : BackStage) (order pages : ℕ) (bound : Bool) → BackHolds s order pages bound → IsUnmapping s → 0 < pages
@@ -372,7 +356,7 @@ module _ (P : Negotiation → Type 0) (keeps : (n : Negotiation) (page : Mapping
       by_bus : (m : Bool) → bus_moves c s ≡ m → Moves w a (if m then key_ask c else backend_ask.ring_ask (ring_moves c s) x) (if m then backend_step.spoken x a.answer else backend_step.ring_step (ring_moves c s) c x a.answer)
       by_bus true says f =
           settled_holds P keeps _ (with_back (negotiation_of w) (step_of w.back a.answer) a.under.keys)
-          (keys_told P keeps c (negotiation_of w) w.rings.under a refl refl (both_first (speaks c) (is_between s) says) f j)
+          (keys_told P keeps c (negotiation_of w) w.rings.under a refl refl (both_true (speaks c) (is_between s) says).0 f j)
       by_bus false quiet f = by_ring (ring_moves c s) refl quiet f
 
 -- so the negotiation goes on as a run

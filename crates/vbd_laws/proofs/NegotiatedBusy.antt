@@ -47,16 +47,15 @@ use Rattle.vbd_model.specs.World.{World, start_of, frontend_of}
 use Rattle.vbd_model.specs.Happening.{Happening, FrontMoves, BackMoves, JobMoves, Closes, Submits, OverwritesKey, Suspends, front_turn, back_turn, is_backs_ring, renewed_bus, happens}
 use Rattle.vbd_model.specs.Fit.{FrontRests, FrontGoesWith, IsFit}
 use Rattle.vbd_laws.specs.Served.{KeepsKeys}
-use Rattle.vbd_laws.specs.Moves.{IsNoMove, IsFrontMove, IsBackMove}
 use Rattle.vbd_laws.proofs.FitFrontRing.{none_step}
 use Rattle.vbd_laws.proofs.FitSuspended.{anew_at}
 use Rattle.vbd_laws.proofs.MovesTurns.{front_cases}
-use Rattle.vbd_laws.proofs.MovesFront.{front_move_is, front_move_none}
-use Rattle.vbd_laws.proofs.MovesBack.{back_move_is, back_move_none}
 use Rattle.vbd_laws.proofs.NegotiatedRun.{negotiation_of, Reached, Joined}
 use Rattle.vbd_laws.proofs.NegotiatedFront.{with_front, Goes, HasInHand, front_moves}
 use Rattle.vbd_laws.proofs.NegotiatedBack.{IsGiven, back_keeps}
 use Rattle.vbd_laws.proofs.NegotiatedRests.{apart_rests}
+use Rattle.vbd_laws.proofs.MovesFront.{after_front_move}
+use Rattle.vbd_laws.proofs.MovesBack.{after_back_move}
 
 -- while the front has a request, what its negotiation awaits is to come
 abbrev pub HasHeard : World → Type 0
@@ -120,30 +119,20 @@ none_moves w x none =
 
 -- so it stays as the front moves
 front_heard : (w : World) → IsFit w → is_broken w.rings.front.stage ≡ false → HasInHand w.rings.front.stage w.rings.front.ending → Joined w → HasHeard w → HasHeard (happens w FrontMoves)
-front_heard w fit whole hand j known = by_act (front_turn w) refl
+front_heard w fit whole hand j known = after_front_move (λ act u. HasHeard u) w fit known acts
   where
     acts : (a : FrontAct) → front_turn w ≡ Some a → (let v : View = frontend_step.step_of (frontend_of w) a.answer in HasHeard (record { rings = record { front = (heard v).ring; back = w.rings.back; under = a.under }; front = v.bus; back = w.back }))
     acts a e some =
         let before : w.rings.front.requests ≢ [] = λ none. some (none_moves w a.answer none) in
         goes_heard j.run.offer j.run.facts (is_unoccupied w.rings.front) (occupied w.rings.front before) (negotiation_of w) _ (front_moves w a fit whole hand e) (holds_of (negotiation_of w) j) (known before)
 
-    by_act : (act : Option FrontAct) → front_turn w ≡ act → HasHeard (happens w FrontMoves)
-    by_act None e = let still : IsNoMove w FrontMoves = front_move_none w fit e in subst HasHeard (sym still.world) known
-    by_act (Some a) e = let moved : IsFrontMove w a = front_move_is w a fit e in subst HasHeard (sym moved.world) (acts a e)
-
 -- no map and no bind is refused the back, and its move of its end of the ring is no halt
 abbrev pub IsUnrefused : World → Type 0
 IsUnrefused w = (a : BackAct) → back_turn w ≡ Some a → IsGiven a.answer × (is_backs_ring w ≡ true → (back_ring_step.step_of w.rings.back a.answer).halted ≡ w.rings.back.halted)
 
 back_moves_heard : (w : World) → IsFit w → IsUnrefused w → HasHeard w → HasHeard (happens w BackMoves)
-back_moves_heard w fit given known = by_act (back_turn w) refl
-  where
-    by_act : (act : Option BackAct) → back_turn w ≡ act → HasHeard (happens w BackMoves)
-    by_act None e = let still : IsNoMove w BackMoves = back_move_none w fit e in subst HasHeard (sym still.world) known
-    by_act (Some a) e =
-        let moved : IsBackMove w a = back_move_is w a fit e in
-        let is = given a e in
-        subst HasHeard (sym moved.world) (λ some. back_keeps IsHeard back_heard w a fit (known some) e is.0 is.1)
+back_moves_heard w fit given known =
+    after_back_move (λ act u. HasHeard u) w fit known (λ a e. let is = given a e in λ some. back_keeps IsHeard back_heard w a fit (known some) e is.0 is.1)
 
 -- a request is taken by a ready front alone, whose negotiation has written Connected
 submit_requests : (v : ring.View) (job : Submission) → (let u : Result ℕ Refusal × ring.View = submit_of v job in u.1.requests ≡ v.requests) ⊎ (is_ready v.stage ≡ true)

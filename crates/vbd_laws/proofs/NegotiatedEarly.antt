@@ -40,14 +40,13 @@ use Rattle.vbd_model.specs.World.{World, frontend_of}
 use Rattle.vbd_model.specs.Happening.{FrontMoves, Closes, front_turn, happens}
 use Rattle.vbd_model.specs.Fit.{BackGoesWith, BackRests, BackReads, IsAborting, IsUnmapping, is_serving, IsFit}
 use Rattle.negotiation_laws.proofs.Choices.{either, unplugged_cases}
-use Rattle.vbd_laws.specs.Moves.{IsNoMove, IsFrontMove}
 use Rattle.vbd_laws.proofs.FitBackRing.{is_past}
 use Rattle.vbd_laws.proofs.MovesTurns.{front_cases}
-use Rattle.vbd_laws.proofs.MovesFront.{front_move_is, front_move_none}
 use Rattle.vbd_laws.proofs.NegotiatedRun.{Joined, negotiation_of, reached_as}
 use Rattle.vbd_laws.proofs.NegotiatedFront.{HasInHand, front_goes}
-use Rattle.vbd_laws.proofs.NegotiatedRests.{Rests, same_rests, closes_joined}
+use Rattle.vbd_laws.proofs.NegotiatedRests.{Rests, closes_joined}
 use Rattle.vbd_laws.proofs.NegotiatedKept.{IsTimely, states_timely}
+use Rattle.vbd_laws.proofs.MovesFront.{after_front_move, front_to}
 
 -- the front's end of the ring before it is connected, and after a close of one that has no ring
 abbrev pub is_early : FrontStage → Bool
@@ -193,10 +192,6 @@ step_early front_ring.Initialised r x here early = ap is_early here
 step_early front_ring.Closed r x here early = ap is_early here
 step_early s r x here early = absurd (true≢false (sym early))
 
--- the machine after a move of the front that made this of it
-abbrev front_to : World → FrontAct → front_view.View → World
-front_to w a x = record { rings = record { front = (front_view.heard x).ring; back = w.rings.back; under = a.under }; front = x.bus; back = w.back }
-
 before_front : (w : World) (a : FrontAct) → IsFit w → HasInHand w.rings.front.stage w.rings.front.ending → front_turn w ≡ Some a → Before w → Before (front_to w a (front_step.step_of (frontend_of w) a.answer))
 before_front w a fit hand turn b =
     let whole = early_whole w.rings.front.stage b.early in
@@ -250,15 +245,11 @@ front_connected w a is =
     (λ quiet moves. step_connected w.rings.front a.answer is) (λ quiet still. is)
 
 pub front_way : (w : World) → IsFit w → HasInHand w.rings.front.stage w.rings.front.ending → IsOnItsWay w → IsOnItsWay (happens w FrontMoves)
-front_way w fit hand way = by_act (front_turn w) refl
+front_way w fit hand way = after_front_move (λ act u. IsOnItsWay u) w fit way (λ a e. by_way a e way)
   where
     by_way : (a : FrontAct) → front_turn w ≡ Some a → IsOnItsWay w → IsOnItsWay (front_to w a (front_step.step_of (frontend_of w) a.answer))
     by_way a e (inl b) = inl (before_front w a fit hand e b)
     by_way a e (inr x) = inr (after_at w.rings.back w.rings.back w.back w.back (is_connected w.rings.front.stage) _ refl refl refl (front_connected w a) x)
-
-    by_act : (act : Option FrontAct) → front_turn w ≡ act → IsOnItsWay (happens w FrontMoves)
-    by_act None e = let still : IsNoMove w FrontMoves = front_move_none w fit e in rests_way (happens w FrontMoves) w (same_rests (happens w FrontMoves) w still.world) way
-    by_act (Some a) e = let moved : IsFrontMove w a = front_move_is w a fit e in subst IsOnItsWay (sym moved.world) (by_way a e way)
 
 -- an end is asked to close
 unplugged_same : (v : BackView) → (unplugged v).stage ≡ v.stage

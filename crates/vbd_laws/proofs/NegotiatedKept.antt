@@ -46,7 +46,8 @@ use Rattle.vbd_laws.proofs.FitFrontTerms.{Found, found_told}
 use Rattle.vbd_laws.proofs.FitFront.{asks_cases}
 use Rattle.vbd_laws.proofs.ServedFront.{IsNewsAt, news_is}
 use Rattle.vbd_laws.proofs.NegotiatedRun.{Reached, Joined, negotiation_of, breaks_at, leaves_at}
-use Rattle.vbd_laws.proofs.NegotiatedFront.{none_in_hand, front_goes, Told, keys_told, closing_unoccupied}
+use Rattle.vbd_laws.proofs.NegotiatedFront.{none_in_hand, front_goes, Told, keys_told}
+use Rattle.vbd_laws.proofs.NegotiatedQuiet.{closing_unoccupied}
 use Rattle.vbd_laws.proofs.NegotiatedAgreed.{connects_knowing}
 
 -- a ring that passed a test which none fails to pass that is being made is made

@@ -25,14 +25,6 @@ pub record Rests (v w : World) : Type 0 where
   pub halted : v.rings.back.halted ≡ w.rings.back.halted
   pub front : v.rings.front.stage ≡ w.rings.front.stage
 
-pub same_rests : (v w : World) → v ≡ w → Rests v w
-same_rests v w e = record {
-  bus = ap negotiation_of e;
-  back = ap (λ (x : World). x.rings.back.stage) e;
-  halted = ap (λ (x : World). x.rings.back.halted) e;
-  front = ap (λ (x : World). x.rings.front.stage) e;
-}
-
 -- a job leaves the keys
 abbrev with_rings : World → rings.World → World
 with_rings w x = record { rings = x; front = w.front; back = w.back }

@@ -1,7 +1,6 @@
 -- The back maps what the front granted: so the machine stays on its way as the back moves, over a suspend, and whatever happens.
-use Rattle.vbd_laws.specs.Served.{KeepsKeys}
-use Rattle.std.proofs.Common.{◌⊎◌, inl, inr, ◌≡◌, ◌∙◌, ap, sym, subst, ℕ, ◌+◌, ◌<◌, ◌^◌, ◌&&◌, Bool, true, false, true≢false, List, [], ◌∷◌, ◌++◌, length, refl, arith, if◌then◌else◌}
-use Rattle.std.specs.Prelude.{Option, Some, None, is_some, nat_lt, codes}
+use Rattle.std.proofs.Common.{◌⊎◌, inl, inr, ◌≡◌, ◌∙◌, ap, sym, subst, ℕ, ◌+◌, ◌&&◌, Bool, true, false, true≢false, List, [], ◌∷◌, ◌++◌, length, refl, arith, if◌then◌else◌}
+use Rattle.std.specs.Prelude.{Option, Some, None, is_some, nat_lt}
 use Rattle.blk_base.specs.declared.parts.End.TheVariants as end
 use Rattle.blk_base.specs.declared.parts.Mapping.{Mapping}
 use Rattle.blk_base.specs.declared.moves.BackMover.TheVariants as back_mover
@@ -11,12 +10,9 @@ use Rattle.blk_base.specs.declared.ask.BackAnswer.{BackAnswer}
 use Rattle.blk_base.specs.declared.ask.BackAnswer.TheVariants as answer
 use Rattle.hypervisor.specs.Hypervisor.{Hypervisor}
 use Rattle.hypervisor.specs.Act.{BackAct, Took, back_act, is_own_path}
-use Rattle.key_directory.specs.Directory.{Directory, fresh_directory}
-use Rattle.hypervisor.specs.Suspend.{suspended as under_suspended}
 use Rattle.blk_front.specs.declared.stage.FrontStage.{FrontStage}
 use Rattle.blk_front.specs.declared.stage.FrontStage.TheVariants as front_ring
-use Rattle.blk_front.specs.State.{is_open}
-use Rattle.blk_front.specs.Suspend.{stage_after, resumed}
+use Rattle.blk_front.specs.Suspend.{stage_after}
 use Rattle.blk_front.specs.Submit.{is_connected}
 use Rattle.back_jobs.specs.Jobs.{first_mapping}
 use Rattle.blk_back.specs.declared.stage.BackStage.{BackStage}
@@ -34,16 +30,11 @@ use Rattle.xenbus_state.specs.declared.table.BackHalt.TheVariants as bus_halt
 use Rattle.xenbus_state.specs.declared.back.BackBusAsk.{BackBusAsk}
 use Rattle.xenbus_state.specs.declared.back.BackBusAsk.TheVariants as bus_ask
 use Rattle.xenbus_state.specs.Keys.{back_name, path_under}
-use Rattle.xenbus_state.specs.BackView.{BackView, start_of, is_halting}
-use Rattle.xenbus_state.specs.FrontView.{FrontView, suspended as front_suspended}
-use Rattle.xenbus_state.specs.declared.offer.Features.{Features}
+use Rattle.xenbus_state.specs.BackView.{BackView, is_halting}
 use Rattle.xenbus_state.specs.BackAsk.{says_closing, ask_at, ask_of}
 use Rattle.xenbus_state.specs.BackSound.{IsPlaced}
 use Rattle.xenbus_state.specs.BackStep as bus_step
-use Rattle.split_model.specs.World as rings
 use Rattle.split_model.specs.Happening as ring_happening
-use Rattle.split_model.proofs.Suspending.{begun_back}
-use Rattle.negotiation_laws.specs.Negotiation as negotiated
 use Rattle.split_model.proofs.SafeActs.{of_back, back_test, back_wait}
 use Rattle.split_model.proofs.SafeAnswers.{back_answered}
 use Rattle.split_model.proofs.Shapes.{attaches_waiting}
@@ -53,21 +44,16 @@ use Rattle.vbd_back.specs.View as back_view
 use Rattle.vbd_back.specs.Ask as back
 use Rattle.vbd_back.specs.Step as back_step
 use Rattle.vbd_model.specs.World.{World, backend_of}
-use Rattle.vbd_model.specs.Happening.{Happening, FrontMoves, BackMoves, Closes, OverwritesKey, Suspends, back_turn, is_backs_ring, renewed_bus, happens}
+use Rattle.vbd_model.specs.Happening.{BackMoves, back_turn, is_backs_ring, happens}
 use Rattle.vbd_model.specs.Fit.{BackGoesWith, BackReads, BackHolds, has_terms, HaveTerms, IsFit}
-use Rattle.vbd_laws.specs.Moves.{IsNoMove, IsBackMove}
 use Rattle.vbd_laws.proofs.FitBackRing.{is_past, given, gives_past, unbound_past, past_step}
 use Rattle.vbd_laws.proofs.MovesTurns.{back_asks, back_cases}
 use Rattle.vbd_laws.proofs.MovesAttached.{halted_only, not_led, taken}
-use Rattle.vbd_laws.proofs.MovesBack.{back_move_is, back_move_none}
-use Rattle.vbd_laws.proofs.ServedFront as fronts
-use Rattle.vbd_laws.proofs.NegotiatedRun.{Reached, Joined, reached_as}
+use Rattle.vbd_laws.proofs.NegotiatedRun.{Reached}
 use Rattle.vbd_laws.proofs.NegotiatedBack.{IsGiven, back_goes}
-use Rattle.vbd_laws.proofs.NegotiatedRests.{same_rests, apart_rests}
 use Rattle.vbd_laws.proofs.NegotiatedKept.{made_now, asks_map}
-use Rattle.vbd_laws.proofs.NegotiatedFront.{HasInHand}
-use Rattle.vbd_laws.proofs.FitSuspended.{anew_at}
-use Rattle.vbd_laws.proofs.NegotiatedEarly.{Before, Bound, Halted, Past, After, is_early, IsOnItsWay, rests_way, front_way, close_way}
+use Rattle.vbd_laws.proofs.NegotiatedEarly.{Before, Bound, Halted, Past, After, is_early, IsOnItsWay}
+use Rattle.vbd_laws.proofs.MovesBack.{back_to, after_back_move}
 
 -- a halt for what the negotiation read
 halt_may : (why : BackHalt) → ring_step.may_halt (back_step.ring_halt why) ≡ true
@@ -130,10 +116,6 @@ led_halted None true u r h = by_test (ring_step.may_attach (back_step.shape_read
     by_test true may = absurd (true≢false (sym (ap is_past h.ring) ∙ ap is_past (attaches_waiting (back_step.shape_read u) u.grefs r may)))
     by_test false may = h
 led_halted None false u r h = h
-
--- the machine after a move of the back that made this of it
-abbrev back_to : World → BackAct → back_view.View → World
-back_to w a x = record { rings = record { front = w.rings.front; back = (back_view.heard x).ring; under = a.under }; front = w.front; back = x.bus }
 
 -- before it has mapped the ring the back's end moves only as its negotiation maps
 maps_next : (b : BackBusAsk) (s : BackStage) → is_unbound s ≡ true → back.ring_moves b s ≡ true → (s ≡ ring.MapRing) × (gref : ℕ) × (b ≡ bus_ask.Map gref)
@@ -330,93 +312,17 @@ module _ (w : World) (a : BackAct) (turn : back_turn w ≡ Some a) where
   after_back (inr (inl h)) = let now = halted_back h in inr (inl (record { ring = now.ring; halted = now.halted }))
   after_back (inr (inr p)) = inr (inr (record { past = past_back p.past; made = p.made }))
 
-back_way : (w : World) → IsFit w → IsOnItsWay w → IsOnItsWay (happens w BackMoves)
-back_way w fit way = by_act (back_turn w) refl
+pub back_way : (w : World) → IsFit w → IsOnItsWay w → IsOnItsWay (happens w BackMoves)
+back_way w fit way = after_back_move (λ act u. IsOnItsWay u) w fit way (λ a e. by_way a e way)
   where
     by_way : (a : BackAct) → back_turn w ≡ Some a → IsOnItsWay w → IsOnItsWay (back_to w a (back_step.step_of (backend_of w) a.answer))
     by_way a e (inl b) = before_back w a fit b e
     by_way a e (inr x) = inr (after_back w a e x)
 
-    by_act : (act : Option BackAct) → back_turn w ≡ act → IsOnItsWay (happens w BackMoves)
-    by_act None e = let still : IsNoMove w BackMoves = back_move_none w fit e in rests_way (happens w BackMoves) w (same_rests (happens w BackMoves) w still.world) way
-    by_act (Some a) e = let moved : IsBackMove w a = back_move_is w a fit e in subst IsOnItsWay (sym moved.world) (by_way a e way)
-
 -- after a suspend the front makes its ring anew, or the new back has halted
-early_anew : (s : FrontStage) → is_early (stage_after s) ≡ true
+pub early_anew : (s : FrontStage) → is_early (stage_after s) ≡ true
 early_anew (front_ring.ReadData n) = refl
 early_anew s = refl
-
--- and the negotiation begins anew
-begins_joined : (w : World) (keys : Directory) → IsFit w → fronts.Speaks w.front → w.back.disk.sectors < 2 ^ 64 → is_open w.rings.front.stage ≡ true → keys ≡ fresh_directory (codes "1")
-    → Reached (record { front = front_suspended w.front; back = start_of w.back.features w.back.disk; keys = keys })
-begins_joined w keys fit speaks sectors opened fresh =
-    reached_as (negotiated.start_of w.front w.back.features w.back.disk) (record { front = front_suspended w.front; back = start_of w.back.features w.back.disk; keys = keys })
-    (ap (λ (v : FrontView). record { front = v; back = start_of w.back.features w.back.disk; keys = keys }) (anew_at w.front.stage w.front w.rings.front.stage fit.front opened)
-    ∙ ap (λ (d : Directory). record { front = negotiated.new_epoch w.front; back = start_of w.back.features w.back.disk; keys = d }) fresh)
-    (record {
-      run = record {
-        front = w.front;
-        offer = w.back.features;
-        facts = w.back.disk;
-        happenings = [];
-        within = record { order = speaks.order; indirect = let few = fit.limited in omega arith; offered = let four : w.back.features.order ≡ 4 = ap (λ (f : Features). f.order) fit.offers in omega arith; sectors = sectors };
-        ports = tt;
-      };
-      served = tt;
-      stands = refl;
-    })
-
--- so it is where the front is open
-pub suspends_joined : (w : World) → IsFit w → fronts.Speaks w.front → w.back.disk.sectors < 2 ^ 64 → rings.may_suspend w.rings ≡ true → is_open w.rings.front.stage ≡ true → Joined (happens w Suspends)
-suspends_joined w fit speaks sectors may opened = by_may (rings.may_suspend w.rings) may
-  where
-    by_open : (o : Bool) → o ≡ true → Reached (record {
-      front = if o then front_suspended w.front else w.front;
-      back = renewed_bus o w.back;
-      keys = let h : Hypervisor = under_suspended (rings.state_after o) w.rings.under in h.keys;
-    })
-    by_open true is = begins_joined w _ fit speaks sectors opened refl
-    by_open false is = absurd (true≢false (sym is))
-
-    by_may : (m : Bool) → m ≡ true → Joined (record {
-      rings = if m then rings.suspended w.rings else w.rings;
-      front = if m && is_open w.rings.front.stage then front_suspended w.front else w.front;
-      back = if m then renewed_bus (is_open w.rings.front.stage) w.back else w.back;
-    })
-    by_may true is = by_open (is_open w.rings.front.stage) opened
-    by_may false is = absurd (true≢false (sym is))
-
-suspend_way : (w : World) → IsFit w → fronts.Speaks w.front → w.back.disk.sectors < 2 ^ 64 → IsOnItsWay w → IsOnItsWay (happens w Suspends)
-suspend_way w fit speaks sectors way = by_may (rings.may_suspend w.rings)
-  where
-    by_open : (opened : Bool) → is_open w.rings.front.stage ≡ opened → IsOnItsWay (record {
-      rings = record {
-        front = if opened then resumed w.rings.front else w.rings.front;
-        back = rings.back_for opened (begun_back w.rings);
-        under = under_suspended (rings.state_after opened) w.rings.under;
-      };
-      front = if opened then front_suspended w.front else w.front;
-      back = renewed_bus opened w.back;
-    })
-    by_open true e = inl (record { joined = begins_joined w _ fit speaks sectors e refl; ring = refl; early = early_anew w.rings.front.stage })
-    by_open false e = inr (inr (inl (record { ring = refl; halted = refl })))
-
-    by_may : (may : Bool) → IsOnItsWay (record {
-      rings = if may then rings.suspended w.rings else w.rings;
-      front = if may && is_open w.rings.front.stage then front_suspended w.front else w.front;
-      back = if may then renewed_bus (is_open w.rings.front.stage) w.back else w.back;
-    })
-    by_may true = by_open (is_open w.rings.front.stage) refl
-    by_may false = way
-
--- whatever happens, but that a hostile hand overwrites a key
-pub on_its_way : (w : World) (h : Happening) → KeepsKeys h → IsFit w → fronts.Speaks w.front → w.back.disk.sectors < 2 ^ 64 → HasInHand w.rings.front.stage w.rings.front.ending → IsOnItsWay w → IsOnItsWay (happens w h)
-on_its_way w FrontMoves keeps fit speaks sectors hand way = front_way w fit hand way
-on_its_way w BackMoves keeps fit speaks sectors hand way = back_way w fit way
-on_its_way w (Closes at) keeps fit speaks sectors hand way = close_way w at way
-on_its_way w (OverwritesKey name text) keeps fit speaks sectors hand way = absurd keeps
-on_its_way w Suspends keeps fit speaks sectors hand way = suspend_way w fit speaks sectors way
-on_its_way w h keeps fit speaks sectors hand way = rests_way (happens w h) w (apart_rests w h tt) way
 
 -- the front's ring and port are made as the back's end moves, or the back has halted
 pub ring_made_now : (w : World) → IsFit w → IsOnItsWay w → back.ring_moves (back_asks w) w.rings.back.stage ≡ true → is_some w.rings.back.halted ≡ false → is_connected w.rings.front.stage ≡ true

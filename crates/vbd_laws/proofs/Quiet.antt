@@ -35,7 +35,9 @@ use Rattle.vbd_laws.proofs.MovesTurns.{front_asks, back_asks, back_learns}
 use Rattle.vbd_laws.proofs.NegotiatedRun.{Reached, negotiation_of}
 use Rattle.vbd_laws.proofs.AtRest.{agrees_at, at_rest}
 use Rattle.vbd_laws.proofs.ServedGone.{gone_agrees}
-use Rattle.vbd_laws.proofs.ServedHonest.{Going, Honest, whole_now, waiting, going_quiet, honest_start, honest_after, all_of}
+use Rattle.vbd_laws.proofs.ServedHonest.{Going, Honest, whole_now}
+use Rattle.vbd_laws.proofs.ServedRun.{waiting, going_quiet, honest_start, honest_after, all_of}
+use Rattle.vbd_laws.proofs.WaitsChecks.{is_closed}
 
 -- the directory says both states
 pub said_at : (n : Negotiation) → Reached n → AreStatesSaid n
@@ -49,10 +51,6 @@ still_at requests s none (inr e) = rw (none, e) refl
 whole_at : (s : FrontStage) → (s ≡ front_ring.Loop) ⊎ (s ≡ front_ring.Closed) → front_view.is_broken s ≡ false
 whole_at s (inl e) = ap front_view.is_broken e
 whole_at s (inr e) = ap front_view.is_broken e
-
-abbrev is_closed : BusState → Bool
-is_closed state.Closed = true
-is_closed s = false
 
 -- it isn't another state
 differs : {A : Type 0} (b c : BusState) → b ≡ state.Closed → b ≡ c → is_closed c ≡ false → A

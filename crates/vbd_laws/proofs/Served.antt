@@ -1,6 +1,6 @@
 -- Whatever a schedule makes happen is possible for the ring's machine, and served until a word or a key is overwritten.
 use Rattle.vbd_laws.proofs.NegotiatedEarly.{IsOnItsWay}
-use Rattle.vbd_laws.proofs.NegotiatedWay.{on_its_way}
+use Rattle.vbd_laws.proofs.NegotiatedAnew.{on_its_way}
 use Rattle.std.proofs.Common.{List, [], ◌∷◌}
 use Rattle.vbd_model.specs.World.{World, start_of}
 use Rattle.vbd_model.specs.Happening.{Happening, happens, after}
@@ -9,7 +9,7 @@ use Rattle.vbd_laws.specs.Waits.{Check, Awake, front_check_in}
 use Rattle.vbd_laws.proofs.WaitsFront.{Knows, knows_on, knows_start, in_hand}
 use Rattle.vbd_laws.proofs.NegotiatedMaps.{goes_by_terms, is_made_first}
 use Rattle.vbd_laws.proofs.ServedPossible.{way_start, Stands, stands_start, stands_on, all_possible}
-use Rattle.vbd_laws.proofs.ServedHonest.{honest_start, all_served}
+use Rattle.vbd_laws.proofs.ServedRun.{honest_start, all_served}
 
 pub rings_possible : RingsPossible
 rings_possible config hs carried options are = all_possible hs (start_of config) (stands_start config options) are

@@ -8,7 +8,6 @@ use Rattle.std.proofs.lemmas.Bool.Decides.{nat_tests}
 use Rattle.blk_base.specs.declared.parts.Mapping.{Mapping}
 use Rattle.blk_base.specs.declared.ask.BackAnswer.{BackAnswer}
 use Rattle.blk_base.specs.declared.ask.BackAnswer.TheVariants as answer
-use Rattle.hypervisor.specs.Act.{BackAct}
 use Rattle.xenbus_state.specs.declared.keys.FrontKey.{FrontKey}
 use Rattle.xenbus_state.specs.declared.keys.FrontKey.TheVariants as key
 use Rattle.xenbus_state.specs.declared.keys.BackKey.{BackKey}
@@ -45,9 +44,11 @@ use Rattle.vbd_back.specs.Step as back_step
 use Rattle.vbd_model.specs.World.{World, backend_of}
 use Rattle.vbd_model.specs.Happening.{back_key as key_move, back_turn, back_bus_after, renewed_bus}
 use Rattle.negotiation_laws.proofs.Choices.{either, unplugged_cases}
+use Rattle.line_text.proofs.Both.{both_true}
 use Rattle.vbd_laws.proofs.FitBackKept.{step_is}
 use Rattle.vbd_laws.proofs.NegotiatedBack.{IsGiven}
 use Rattle.vbd_laws.proofs.ServedTexts.{few_states, page_name, state_name, ring_name, order_name, port_name, layout_name, persistent_name, number_text, page_path, front_state_path, back_state_path, back_path, ring_path, order_path, port_path, layout_path, persistent_path, flag_text, state_text}
+use Rattle.vbd_laws.proofs.HaltsKeys.{IsReadKey}
 
 -- a page whose reference it reads is one of 16
 abbrev pub IsPlain : BackBusStage → Type 0
@@ -63,14 +64,6 @@ pub record Speaks (v : BackView) : Type 0 where
 
 at_speaks : (s : BackBusStage) (v : BackView) → IsPlain s → Speaks v → Speaks (record v { stage = s })
 at_speaks s v p h = record { sectors = h.sectors; order = h.order; grefs = h.grefs; port = h.port; stage = p }
-
-feature_plain : (k : Option BackKey) → IsPlain (after_feature k)
-feature_plain None = tt
-feature_plain (Some k) = tt
-
-fact_plain : (k : Option BackKey) → IsPlain (after_fact k)
-fact_plain None = tt
-fact_plain (Some k) = tt
 
 state_plain : (s : BusState) → IsPlain (after_state s)
 state_plain state.InitWait = tt
@@ -92,14 +85,10 @@ unfolding number_after
 after_small limit n m [] few e = subst (λ (k : ℕ). k ≤ limit) (same_Some n m e) few
 after_small limit n m (c ∷ text) few e = by_test (is_digit c && nat_le (n * 10 + (c - 48)) limit) refl (λ few. after_small limit (n * 10 + (c - 48)) m text few) e
   where
-    within : (a b : Bool) → (a && b) ≡ true → b ≡ true
-    within true b both = both
-    within false b both = absurd (cc)
-
     by_test : (b : Bool) → (is_digit c && nat_le (n * 10 + (c - 48)) limit) ≡ b
         → (n * 10 + (c - 48) ≤ limit → number_after limit (n * 10 + (c - 48)) text ≡ Some m → m ≤ limit) → (if b then number_after limit (n * 10 + (c - 48)) text else None) ≡ Some m → m ≤ limit
     by_test true is later f =
-        let low = within (is_digit c) (nat_le (n * 10 + (c - 48)) limit) is in
+        let low = (both_true (is_digit c) (nat_le (n * 10 + (c - 48)) limit) is).1 in
         let next : n * 10 + (c - 48) ≤ limit = grind (arith, nat_tests) in
         later next f
     by_test false is later f = absurd (none-some m f)
@@ -169,7 +158,7 @@ key_speaks key.FeaturePersistent text v h = kept_speaks (with_persistent v) (cou
 key_speaks other None v h = at_speaks bus.UnmapOthers v tt h
 
 step_speaks : (s : BackBusStage) (v : BackView) (a : BackAnswer) → Speaks v → Speaks (step_at s v a)
-step_speaks (bus.Publish k) v answer.Done h = at_speaks (after_feature (next_feature k)) v (feature_plain (next_feature k)) h
+step_speaks (bus.Publish k) v answer.Done h = at_speaks (after_feature (next_feature k)) v (elim (next_feature k) as (λ k. IsPlain (after_feature k)) [ None ↦ tt | Some k ↦ tt ]) h
 step_speaks (bus.WriteState s) v answer.Done h = record { sectors = h.sectors; order = h.order; grefs = h.grefs; port = h.port; stage = state_plain s }
 step_speaks bus.Watch v answer.Done h = at_speaks bus.Rest v tt h
 step_speaks bus.Rest v (answer.Watched path) h = at_speaks bus.ReadState v tt h
@@ -180,7 +169,7 @@ step_speaks bus.MapPage v (answer.Mapped page) h =
 step_speaks bus.MapPage v (answer.MapRefused status) h = at_speaks bus.UnmapOthers v tt h
 step_speaks bus.Bind v answer.Done h = record { sectors = h.sectors; order = h.order; grefs = h.grefs; port = h.port; stage = tt }
 step_speaks bus.Bind v answer.BindRefused h = at_speaks bus.UnmapOthers v tt h
-step_speaks (bus.PublishFact k) v answer.Done h = at_speaks (after_fact (next_fact k)) v (fact_plain (next_fact k)) h
+step_speaks (bus.PublishFact k) v answer.Done h = at_speaks (after_fact (next_fact k)) v (elim (next_fact k) as (λ k. IsPlain (after_fact k)) [ None ↦ tt | Some k ↦ tt ]) h
 step_speaks bus.UnmapOthers v answer.Done h = at_speaks (unmapping_next v.pages v.bound v.state) v (up_plain v.pages v.bound v.state) h
 step_speaks bus.UnmapPage v answer.Done h = record { sectors = h.sectors; order = h.order; grefs = h.grefs; port = h.port; stage = up_plain (other_pages v.pages) v.bound v.state }
 step_speaks bus.ClosePort v answer.Done h = record { sectors = h.sectors; order = h.order; grefs = h.grefs; port = h.port; stage = tt }
@@ -194,11 +183,7 @@ stopped_speaks v h = either Speaks (is_halting v.stage) v (halted v) h (at_speak
 
 -- a move of the back
 pub back_speaks : (w : World) → Speaks w.back → Speaks (back_bus_after w (back_turn w))
-back_speaks w h = by_act (back_turn w)
-  where
-    by_act : (act : Option BackAct) → Speaks (back_bus_after w act)
-    by_act None = h
-    by_act (Some a) = step_is Speaks told_speaks stopped_speaks (backend_of w) a.answer h
+back_speaks w h = elim (back_turn w) as (λ act. Speaks (back_bus_after w act)) [ None ↦ h | Some a ↦ step_is Speaks told_speaks stopped_speaks (backend_of w) a.answer h ]
 
 -- the terms that its end of the ring takes have 32 bits
 all_at : (grefs : List ℕ) → AllByRecursion (λ (gref : ℕ). gref < 2 ^ 32) grefs → All (λ (gref : ℕ). gref < 2 ^ 32) grefs
@@ -264,10 +249,6 @@ pub back_spelled : (w : World) → w.back.features ≡ offer w.back.disk.read_on
 back_spelled w e most h = asked_spelled w.back e most h
 
 -- a halt that it makes of what it read is a line of the grammar
-abbrev IsReadKey : FrontKey → Type 0
-IsReadKey (key.RingRefOf page) = page < 16
-IsReadKey k = Unit {0}
-
 -- it is one of these, where no map and no bind is refused
 abbrev pub IsRead : Option BackHalt → Type 0
 IsRead (Some (bus_halt.BadKey k)) = IsReadKey k

@@ -29,7 +29,7 @@ use Rattle.xenbus_state.specs.Tables.{front_action, on_offer, on_connected, on_c
 use Rattle.xenbus_state.specs.Programs.{next_feature, next_fact, first_published, after_page, next_published}
 use Rattle.xenbus_state.specs.Reading.{count_read, fact_read}
 use Rattle.xenbus_state.specs.FrontView.{FrontView, ring_order, pages_of, closed, suspended_at, suspended}
-use Rattle.xenbus_state.specs.FrontAsk.{due, due_at, leaving, closing_stage, ask_at, ask_of}
+use Rattle.xenbus_state.specs.FrontAsk.{due, due_at, ask_at, ask_of}
 use Rattle.xenbus_state.specs.FrontStep.{at, acted, feature_step, fact_step, after, after_feature, after_fact, after_published, after_grants, after_state, closing_news, action_news, read_news, written_news, news_at, news_of, step_at, step_of}
 use Rattle.split_model.proofs.SafeAnswers.{IsFronts, fronts_at}
 use Rattle.machine_pipeline.specs.Allowed.{IsSpelled}
@@ -39,7 +39,7 @@ use Rattle.vbd_front.specs.Step as front_step
 use Rattle.vbd_model.specs.World.{World, frontend_of}
 use Rattle.vbd_model.specs.Happening.{front_key, front_turn, front_bus_after}
 use Rattle.vbd_model.specs.Fit.{IsFit}
-use Rattle.negotiation_laws.proofs.Choices.{closed_cases, either}
+use Rattle.negotiation_laws.proofs.Choices.{closed_cases, either, due_cases}
 use Rattle.vbd_laws.proofs.FitFront.{asks_cases}
 use Rattle.vbd_laws.proofs.FitFrontReads.{step_is}
 use Rattle.vbd_laws.proofs.ServedTexts.{number_text, front_state_path, back_state_path, back_path, ring_path, order_path, page_path, port_path, layout_path, persistent_path, layout_text, flag_text, state_text}
@@ -65,41 +65,15 @@ IsNumber port = port < 2 ^ 32
 abbrev pub Speaks : FrontView → Type 0
 Speaks v = SpeaksWith IsNumber v
 
-leaving_plain : (gone : Bool) (port : Option ℕ) → IsPlain (leaving gone port)
-leaving_plain false port = tt
-leaving_plain true None = tt
-leaving_plain true (Some port) = tt
-
-closing_plain : (own : BusState) (v : FrontView) → IsPlain (closing_stage own v)
-closing_plain state.Closing v = leaving_plain v.gone v.port
-closing_plain own v = tt
-
 due_plain : (s : FrontBusStage) (v : FrontView) (idle : Bool) → IsPlain s → IsPlain (due_at s v idle)
-due_plain bus.Rest v idle p = either IsPlain (v.closing && idle) (closing_stage v.state v) bus.Rest (closing_plain v.state v) tt
-due_plain s v idle p = p
-
-feature_plain : (k : Option BackKey) → IsPlain (after_feature k)
-feature_plain None = tt
-feature_plain (Some k) = tt
-
-fact_plain : (k : Option BackKey) → IsPlain (after_fact k)
-fact_plain None = tt
-fact_plain (Some k) = tt
-
-grants_plain : (port : Option ℕ) → IsPlain (after_grants port)
-grants_plain None = tt
-grants_plain (Some port) = tt
+due_plain s v idle p = due_cases IsPlain s v idle p tt tt tt
 
 state_plain : (s : BusState) → IsPlain (after_state s)
 state_plain state.Closed = tt
 state_plain s = tt
 
 first_plain : (order : ℕ) → IsPlain (bus.Publish (first_published order))
-first_plain order = by_test (order == 0)
-  where
-    by_test : (single : Bool) → IsPlain (bus.Publish (if single then key.RingRef else key.RingPageOrder))
-    by_test true = tt
-    by_test false = tt
+first_plain order = either (λ (k : FrontKey). IsPlain (bus.Publish k)) (order == 0) key.RingRef key.RingPageOrder tt tt
 
 -- a ring has at most 16 pages
 page_plain : (order page : ℕ) → order ≤ 4 → IsPlain (bus.Publish (after_page order page))
@@ -126,7 +100,7 @@ after_plain (bus.RingWord word) v o p = either IsPlain (word == 15) (bus.Grant 0
 after_plain (bus.Grant page) v o p = either IsPlain (nat_lt (page + 1) (pages_of v)) (bus.Grant (page + 1)) bus.NewPort tt tt
 after_plain (bus.Publish k) v o p = published_plain k (ring_order v) (few_orders v o)
 after_plain (bus.EndGrant page) v o p = either IsPlain (nat_lt (page + 1) (pages_of v)) (bus.EndGrant (page + 1)) bus.EndOtherGrants tt tt
-after_plain bus.EndOtherGrants v o p = grants_plain v.port
+after_plain bus.EndOtherGrants v o p = elim v.port as (λ port. IsPlain (after_grants port)) [ None ↦ tt | Some port ↦ tt ]
 after_plain s v o p = p
 
 module _ (Fits : ℕ → Type 0) where
@@ -141,11 +115,11 @@ module _ (Fits : ℕ → Type 0) where
 
   feature_speaks : (k : BackKey) (n : Option ℕ) (v : FrontView) → v.order ≤ 4 → IsPort Fits v.port → SpeaksWith Fits (feature_step k n v)
   feature_speaks k None v o p = record { order = o; port = p; stage = tt }
-  feature_speaks k (Some n) v o p = record { order = o; port = p; stage = feature_plain (next_feature k) }
+  feature_speaks k (Some n) v o p = record { order = o; port = p; stage = elim (next_feature k) as (λ next. IsPlain (after_feature next)) [ None ↦ tt | Some key ↦ tt ] }
 
   fact_speaks : (k : BackKey) (n : Option ℕ) (v : FrontView) → v.order ≤ 4 → IsPort Fits v.port → SpeaksWith Fits (fact_step k n v)
   fact_speaks k None v o p = record { order = o; port = p; stage = tt }
-  fact_speaks k (Some n) v o p = record { order = o; port = p; stage = fact_plain (next_fact k) }
+  fact_speaks k (Some n) v o p = record { order = o; port = p; stage = elim (next_fact k) as (λ next. IsPlain (after_fact next)) [ None ↦ tt | Some key ↦ tt ] }
 
   step_speaks : (s : FrontBusStage) (v : FrontView) (idle : Bool) (a : FrontAnswer) → Tells a → v.order ≤ 4 → IsPort Fits v.port → IsPlain s → SpeaksWith Fits (step_at s (at s v) idle a)
   step_speaks bus.Rest v idle (answer.Watched path) told o p q = record { order = o; port = p; stage = tt }

@@ -2,6 +2,7 @@
 use Rattle.std.proofs.Common.{◌⊎◌, inl, inr, ◌≡◌, ◌∙◌, ap, sym, subst, refl, ℕ, ◌&&◌, ◌||◌, Bool, true, false, true≢false, if◌then◌else◌, List, [], arith, ◌∷◌}
 use Rattle.std.specs.Prelude.{Option, Some, None, is_some, codes}
 use Rattle.std.proofs.lemmas.Fmt.{decimal_digit}
+use Rattle.std.proofs.Math.Bool.{and-false}
 use Rattle.blk_base.specs.declared.parts.End.{End}
 use Rattle.blk_base.specs.declared.parts.End.TheVariants as end
 use Rattle.blk_base.specs.declared.moves.BackMover.TheVariants as back_mover
@@ -148,10 +149,6 @@ gone_begins w fit may over whole = by_may (rings.may_suspend w.rings) may
     by_may true is = by_open (is_open w.rings.front.stage) refl
     by_may false is = absurd (true≢false (sym is))
 
-none_said : (b : Bool) → (b && false) ≡ false
-none_said true = refl
-none_said false = refl
-
 module _ (w : World) (fit : IsFit w) (gone : IsGone w) where
   -- the ends of the ring, and both states
   goes : (w.front.state ≡ state.Closed) × (w.rings.front.stage ≡ front_ring.Closed) × (w.front.closing ≡ true)
@@ -186,7 +183,7 @@ module _ (w : World) (fit : IsFit w) (gone : IsGone w) where
   back_rests : back_asks w ≡ back_bus_ask.Wait
   back_rests =
       ap (λ (b : Bool). if b then back_bus_ask.SetState state.Closing else back_buses.ask_at w.back.stage w.back)
-      (ap (λ (s : BackBusStage). w.back.unplugged && back_buses.says_closing_at s w.back.state) gone.back ∙ none_said w.back.unplugged)
+      (ap (λ (s : BackBusStage). w.back.unplugged && back_buses.says_closing_at s w.back.state) gone.back ∙ and-false w.back.unplugged)
       ∙ ap (λ (s : BackBusStage). back_buses.ask_at s w.back) gone.back
 
   front_moves : front.ring_moves (front_asks w) w.rings.front.stage ≡ true

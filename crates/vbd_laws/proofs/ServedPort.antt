@@ -1,5 +1,5 @@
 -- The front's port is the first that is made in its epoch: as many ports were made before it as were before the epoch.
-use Rattle.std.proofs.Common.{◌≡◌, ◌∙◌, ap, sym, subst, refl, ℕ, ◌+◌, ◌-◌, ◌&&◌, Bool, true, false, if◌then◌else◌, List, [], ◌∷◌, ◌++◌, map, length, length-append, length-set, arith}
+use Rattle.std.proofs.Common.{◌≡◌, ap, sym, subst, refl, ℕ, ◌+◌, ◌-◌, ◌&&◌, Bool, true, false, if◌then◌else◌, List, [], ◌∷◌, ◌++◌, map, length, length-append, length-set, arith}
 use Rattle.std.specs.Prelude.{Option, Some, None, slice_set}
 use Rattle.std.proofs.Math.ListN.{length-map}
 use Rattle.blk_base.specs.declared.parts.End.TheVariants as end
@@ -24,14 +24,13 @@ use Rattle.split_model.proofs.SafeAnswers.{IsFronts}
 use Rattle.vbd_front.specs.Ask as front
 use Rattle.vbd_back.specs.Ask as back
 use Rattle.vbd_model.specs.World.{World, frontend_of, backend_of}
-use Rattle.vbd_model.specs.Happening.{Happening, FrontMoves, BackMoves, JobMoves, Closes, Submits, Suspends, front_turn, back_turn, renewed_bus, does, happens}
+use Rattle.vbd_model.specs.Happening.{Happening, FrontMoves, BackMoves, JobMoves, Closes, Submits, Suspends, renewed_bus, does, happens}
 use Rattle.vbd_model.specs.Fit.{IsFit}
-use Rattle.vbd_laws.specs.Moves.{IsNoMove, IsFrontMove, IsBackMove}
 use Rattle.vbd_laws.proofs.FitSuspended.{anew_at}
-use Rattle.vbd_laws.proofs.MovesFront.{front_move_is, front_move_none}
-use Rattle.vbd_laws.proofs.MovesBack.{back_move_is, back_move_none}
 use Rattle.vbd_laws.proofs.NegotiatedBusy.{StaysInEpoch}
 use Rattle.vbd_laws.proofs.ServedFront.{SpeaksWith, AsksFor, asks_port, move_speaks, closed_speaks}
+use Rattle.vbd_laws.proofs.MovesFront.{after_front_move}
+use Rattle.vbd_laws.proofs.MovesBack.{after_back_move}
 
 -- the next port after so many
 abbrev pub IsNext : (count : ℕ) → (port : ℕ) → Type 0
@@ -79,20 +78,6 @@ back_keeps h who a o x e =
     ]
 
 -- and so over whatever happens in an epoch
-front_earlier : (w : World) → IsFit w → earlier (happens w FrontMoves) ≡ earlier w
-front_earlier w fit = by_act (front_turn w) refl
-  where
-    by_act : (act : Option FrontAct) → front_turn w ≡ act → earlier (happens w FrontMoves) ≡ earlier w
-    by_act None e = let still : IsNoMove w FrontMoves = front_move_none w fit e in ap earlier still.world
-    by_act (Some a) e = let moved : IsFrontMove w a = front_move_is w a fit e in ap earlier moved.world ∙ front_keeps w.rings.under (front.ask_of (frontend_of w)) a e
-
-back_earlier : (w : World) → IsFit w → earlier (happens w BackMoves) ≡ earlier w
-back_earlier w fit = by_act (back_turn w) refl
-  where
-    by_act : (act : Option BackAct) → back_turn w ≡ act → earlier (happens w BackMoves) ≡ earlier w
-    by_act None e = let still : IsNoMove w BackMoves = back_move_none w fit e in ap earlier still.world
-    by_act (Some a) e = let moved : IsBackMove w a = back_move_is w a fit e in ap earlier moved.world ∙ back_keeps w.rings.under back_mover.Back (back.ask_of (backend_of w)) Took a e
-
 job_earlier : (w : rings.World) (number : ℕ) (o : Outcome) (act : Option BackAct) → ring.job_turn w number o ≡ act → Keeps w.under (let v : rings.World = ring.job_after w number act in v.under)
 job_earlier w number o None e = refl
 job_earlier w number o (Some a) e = back_keeps w.under (back_mover.Job number) (job_ask_of w.back number) o a e
@@ -107,8 +92,8 @@ beside_earlier : (w : World) (h : Happening) (x : ring.Happening) → does w h �
 beside_earlier w h x one outside = rw one (outside_earlier w.rings x outside)
 
 earlier_stays : (w : World) (h : Happening) → StaysInEpoch h → IsFit w → earlier (happens w h) ≡ earlier w
-earlier_stays w FrontMoves stays fit = front_earlier w fit
-earlier_stays w BackMoves stays fit = back_earlier w fit
+earlier_stays w FrontMoves stays fit = after_front_move (λ act u. earlier u ≡ earlier w) w fit refl (λ a e. front_keeps w.rings.under (front.ask_of (frontend_of w)) a e)
+earlier_stays w BackMoves stays fit = after_back_move (λ act u. earlier u ≡ earlier w) w fit refl (λ a e. back_keeps w.rings.under back_mover.Back (back.ask_of (backend_of w)) Took a e)
 earlier_stays w (JobMoves number outcome) stays fit = job_earlier w.rings number outcome (ring.job_turn w.rings number outcome) refl
 earlier_stays w (Closes end.Front) stays fit = refl
 earlier_stays w (Closes end.Back) stays fit = refl

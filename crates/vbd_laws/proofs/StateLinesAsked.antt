@@ -44,7 +44,8 @@ use Rattle.vbd_laws.proofs.StateLinesBegun.{begun}
 use Rattle.vbd_laws.proofs.MovesFront.{front_move_is, front_move_none}
 use Rattle.vbd_laws.proofs.NegotiatedRun.{negotiation_of, late_at, early_at}
 use Rattle.vbd_laws.proofs.Quiet.{said_at}
-use Rattle.vbd_laws.proofs.ServedHonest.{Going, Honest, whole_now, honest_start, honest_after}
+use Rattle.vbd_laws.proofs.ServedHonest.{Going, Honest, whole_now}
+use Rattle.vbd_laws.proofs.ServedRun.{honest_start, honest_after}
 
 -- what the front reads is what the directory has
 abbrev ReadsKeys : Hypervisor → Move → Type 0
@@ -159,11 +160,7 @@ begun_kept k (line ∷ ls) none = by_line (is_closing line) refl (λ rest. begun
 
 unasked : (w : World) (h : Happening) → is_close h ≡ false → asked_after false w h ≡ false
 unasked w (Closes at) none = absurd (true≢false none)
-unasked w Suspends none = by_may (rings.may_suspend w.rings)
-  where
-    by_may : (b : Bool) → (if b then false else false) ≡ false
-    by_may true = refl
-    by_may false = refl
+unasked w Suspends none = elim (rings.may_suspend w.rings) as (λ b. (if b then false else false) ≡ false) [ true ↦ refl | false ↦ refl ]
 unasked w h none = refl
 
 eased_on : (config : Options) (w : World) (h : Happening) → IsUntouched h → IsPossible w h → is_close h ≡ false → Eased config w → Eased config (happens w h)

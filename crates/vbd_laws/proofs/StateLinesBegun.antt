@@ -46,11 +46,7 @@ job_leaves w number None = refl
 job_leaves w number (Some a) = refl
 
 suspend_leaves : (w : World) → Leaves w Suspends
-suspend_leaves w = by_may (may_suspend w)
-  where
-    by_may : (may : Bool) → (let v : World = (if may then suspended w else w) in v.front.closing) ≡ w.front.closing
-    by_may true = (front_kept w.front).closing
-    by_may false = refl
+suspend_leaves w = elim (may_suspend w) as (λ may. (let v : World = (if may then suspended w else w) in v.front.closing) ≡ w.front.closing) [ true ↦ (front_kept w.front).closing | false ↦ refl ]
 
 abbrev IsOther : Happening → Type 0
 IsOther (FrontEnters s) = ⊥

@@ -35,15 +35,14 @@ use Rattle.xenbus_state.specs.Keys.{front_name, back_name, path_under}
 use Rattle.xenbus_state.specs.Reading.{count_read, fact_read}
 use Rattle.xenbus_state.specs.Values.{text_of, front_value}
 use Rattle.xenbus_state.specs.FrontView.{FrontView, terms_of}
-use Rattle.xenbus_state.specs.FrontAsk.{ask_at, ask_of, due, leaving, closing_stage}
+use Rattle.xenbus_state.specs.FrontAsk.{ask_at, ask_of, due}
 use Rattle.xenbus_state.specs.FrontStep.{at, closing_news, action_news, read_news, written_news, news_at, news_of}
 use Rattle.split_model.proofs.SafeActs.{of_front, front_test}
 use Rattle.vbd_front.specs.Ask as front
 use Rattle.vbd_front.specs.Step.{state_of_news, news_told}
-use Rattle.negotiation_laws.proofs.Choices.{either}
+use Rattle.negotiation_laws.proofs.Choices.{either, due_cases}
 use Rattle.vbd_laws.specs.Halts.{state_said}
 use Rattle.vbd_laws.specs.StateLines.{StateDue, NoState, ReadyDue, ClosedDue, ClosingDue, LeavingDue, set_due, state_due, read_due, move_due}
-use Rattle.vbd_laws.proofs.FitFrontBus.{due_cases}
 
 -- what the front tells is what is due
 abbrev pub is_state : Option FrontNews → Bool
@@ -71,11 +70,7 @@ told_as offers n r may = ap (λ (b : Bool). if b then Some n else None) may
 
 no_state : (offers : Offers) (n : Option FrontNews) (r : ring.View) → is_state n ≡ false → is_state (news_told offers n r) ≡ false
 no_state offers None r none = refl
-no_state offers (Some n) r none = by_test (may_enter (state_of_news offers n) r)
-  where
-    by_test : (b : Bool) → is_state (if b then Some n else None) ≡ false
-    by_test true = none
-    by_test false = refl
+no_state offers (Some n) r none = elim (may_enter (state_of_news offers n) r) as (λ b. is_state (if b then Some n else None) ≡ false) [ true ↦ none | false ↦ refl ]
 
 -- it reads the back's state
 may_close : (r : ring.View) → is_open r.stage ≡ true → r.closing ≡ false → may_enter enter.Closing r ≡ true
@@ -192,16 +187,7 @@ tells_at begun idle offers (stage.WriteState s) v r h a same may speaks e =
     set_acts (Tells begun idle offers (stage.WriteState s) v r) h front.own_state (decimal (state_number s)) a (writes begun s (offers answer.Done) v r same may) e
 tells_at begun idle offers s v r h a same may speaks e = absurd (true≢false (sym speaks))
 
-leaving_tells : (gone : Bool) (port : Option ℕ) (v : FrontView) (r : ring.View) → MayTell (leaving gone port) v r
-leaving_tells false port v r = tt
-leaving_tells true (Some port) v r = tt
-leaving_tells true None v r = tt
-
-closing_tells : (own : BusState) (v : FrontView) (r : ring.View) → MayTell (closing_stage own v) v r
-closing_tells state.Closing v r = leaving_tells v.gone v.port v r
-closing_tells own v r = tt
-
 pub tells : (begun idle : Bool) (offers : FrontAnswer → Offers) (v : FrontView) (r : ring.View) (h : Hypervisor) (a : FrontAct) → begun ≡ r.closing → MayTell v.stage v r → front.speaks (ask_of v idle) ≡ true
     → front_act h (front.key_ask (ask_of v idle)) ≡ Some a → Agrees begun (move_due begun a.shown) (news_told (offers a.answer) (news_of v idle a.answer) r)
 tells begun idle offers v r h a same may speaks e =
-    tells_at begun idle offers (due v idle) v r h a same (due_cases (λ (s : FrontBusStage). MayTell s v r) v idle may (λ rests closes none. closing_tells v.state v r)) speaks e
+    tells_at begun idle offers (due v idle) v r h a same (due_cases (λ (s : FrontBusStage). MayTell s v r) v.stage v idle may tt tt tt) speaks e

@@ -13,14 +13,12 @@ use Rattle.schedule_text.specs.declared.line.Line.{Line}
 use Rattle.schedule_text.specs.declared.line.Line.TheVariants as lines
 use Rattle.hypervisor.specs.Hypervisor.{Hypervisor}
 use Rattle.hypervisor.specs.Act.{FrontAct, front_act}
-use Rattle.blk_front.specs.declared.stage.FrontStage.{FrontStage}
-use Rattle.blk_front.specs.declared.stage.FrontStage.TheVariants as ring_stage
 use Rattle.blk_front.specs.declared.told.Told.{Told}
 use Rattle.blk_front.specs.declared.told.Told.TheVariants as front_told
 use Rattle.blk_front.specs.Ask as ring_asked
 use Rattle.blk_front.specs.declared.state.Offers.{Offers}
 use Rattle.blk_front.specs.View as front
-use Rattle.blk_front.specs.State.{is_open, is_bare, may_enter}
+use Rattle.blk_front.specs.State.{is_open, may_enter}
 use Rattle.blk_front.specs.Submit.{is_initialised}
 use Rattle.report_rules.proofs.Obeys.{obeys_more}
 use Rattle.xenbus_state.specs.declared.state.BusState.TheVariants as state
@@ -49,6 +47,7 @@ use Rattle.vbd_laws.proofs.StateLinesBegun.{from-append}
 use Rattle.vbd_laws.proofs.StateLinesFront.{is_state, Agrees, MayTell, tells}
 use Rattle.vbd_laws.proofs.MovesTurns.{front_asks, front_cases}
 use Rattle.vbd_laws.proofs.MovesFront.{entered_told}
+use Rattle.vbd_laws.proofs.FitFrontSpoken.{bare_whole}
 
 -- each of these lines may follow those before it
 abbrev pub AllFollow : StateSight → List Line → Type 0
@@ -178,10 +177,6 @@ tells_goes k opened shown x none closed is = record {
     ]
 
 -- its negotiation speaks: the end of the ring may enter the state
-bare_whole : (r : FrontStage) → is_bare r ≡ true → front_view.is_broken r ≡ false
-bare_whole (ring_stage.Broken word) bare = absurd (true≢false (sym bare))
-bare_whole r bare = refl
-
 may_tell : (w : World) → IsFit w → MayTell w.front.stage w.front w.rings.front
 may_tell w fit = by_stage w.front.stage fit.front
   where

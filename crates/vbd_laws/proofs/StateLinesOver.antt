@@ -41,6 +41,7 @@ use Rattle.split_model.proofs.States.{enters_cases}
 use Rattle.split_model.proofs.Suspending.{front_cases}
 use Rattle.vbd_laws.specs.StateLines.{StateSight, is_over, after, from}
 use Rattle.vbd_laws.proofs.StateLinesBegun.{from-append}
+use Rattle.vbd_laws.proofs.FitFrontClose.{bare_open}
 
 -- what the end of the ring tells breaks it
 abbrev pub is_break : Option Told → Bool
@@ -137,11 +138,6 @@ made_open stage.Initialised made = refl
 made_open stage.Loop made = refl
 made_open s made = absurd (true≢false (sym made))
 
-bare_open : (s : FrontStage) → is_bare s ≡ true → is_open s ≡ true
-bare_open (stage.RingWord k) bare = refl
-bare_open stage.Left bare = refl
-bare_open s bare = absurd (true≢false (sym bare))
-
 unmade_open : (s : FrontStage) → is_unmade s ≡ true → is_open s ≡ true
 unmade_open (stage.RingWord k) unmade = refl
 unmade_open s unmade = absurd (true≢false (sym unmade))
@@ -207,11 +203,11 @@ plain x line other shows = refl
 abbrev Stays : World → Happening → Type 0
 Stays w x = is_open w.front.stage ≡ false → (let v : World = ring.happens w x in is_open v.front.stage) ≡ false
 
-back_stays : (w : World) (act : Option BackAct) → (let v : World = ring.back_after w act in v.front) ≡ w.front
+pub back_stays : (w : World) (act : Option BackAct) → (let v : World = ring.back_after w act in v.front) ≡ w.front
 back_stays w None = refl
 back_stays w (Some a) = refl
 
-job_stays : (w : World) (number : ℕ) (act : Option BackAct) → (let v : World = ring.job_after w number act in v.front) ≡ w.front
+pub job_stays : (w : World) (number : ℕ) (act : Option BackAct) → (let v : World = ring.job_after w number act in v.front) ≡ w.front
 job_stays w number None = refl
 job_stays w number (Some a) = refl
 

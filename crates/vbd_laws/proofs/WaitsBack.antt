@@ -1,5 +1,5 @@
 -- What is known of the back at every moment.
-use Rattle.std.proofs.Common.{◌≡◌, sym, subst, refl, ℕ, ◌≤◌, Bool, true, false, true≢false, if◌then◌else◌, List, [], ◌∷◌}
+use Rattle.std.proofs.Common.{◌≡◌, sym, subst, refl, ℕ, ◌≤◌, Bool, true, false, if◌then◌else◌, List, [], ◌∷◌}
 use Rattle.std.specs.Prelude.{Option, Some, None}
 use Rattle.std.proofs.lemmas.Option.{none-some}
 use Rattle.blk_base.specs.Options.{Options}
@@ -9,13 +9,12 @@ use Rattle.blk_base.specs.declared.ask.BackAsk.{BackAsk}
 use Rattle.blk_base.specs.declared.ask.BackAsk.TheVariants as back_ask
 use Rattle.blk_base.specs.declared.ask.BackAnswer.{BackAnswer}
 use Rattle.blk_base.specs.declared.moves.BackMover.TheVariants as back_mover
-use Rattle.hypervisor.specs.Act.{FrontAct, BackAct, Took, back_act, back_watched, watch_next}
+use Rattle.hypervisor.specs.Act.{BackAct, Took, back_act, back_watched, watch_next}
 use Rattle.blk_back.specs.View as ends
 use Rattle.blk_back.specs.View.{page_of}
 use Rattle.blk_back.specs.Ask as back_ring
 use Rattle.xenbus_state.specs.declared.table.BackHalt.{BackHalt}
 use Rattle.xenbus_state.specs.declared.back.BackBusAsk.{BackBusAsk}
-use Rattle.xenbus_state.specs.declared.back.BackBusAsk.TheVariants as bus_ask
 use Rattle.xenbus_state.specs.BackView.{BackView}
 use Rattle.xenbus_state.specs.BackStep.{step_of}
 use Rattle.line_text.proofs.Both.{both_true}
@@ -29,14 +28,14 @@ use Rattle.vbd_back.specs.View as back_view
 use Rattle.vbd_back.specs.Ask as back
 use Rattle.vbd_back.specs.Step as back_step
 use Rattle.vbd_model.specs.World.{World, start_of, backend_of}
-use Rattle.vbd_model.specs.Happening.{Happening, FrontMoves, BackMoves, JobMoves, Closes, Suspends, front_turn, back_turn, back_does, halted_at, happens, after}
+use Rattle.vbd_model.specs.Happening.{Happening, FrontMoves, BackMoves, JobMoves, Closes, Suspends, back_turn, back_does, halted_at, happens, after}
 use Rattle.vbd_model.specs.Fit.{IsFit}
 use Rattle.vbd_laws.specs.Waits.{Check, Awake, back_checks, back_check_by, back_check_in, back_check}
 use Rattle.vbd_laws.proofs.Fit.{fit_start, fit_happens}
-use Rattle.vbd_laws.proofs.MovesTurns.{back_asks, back_learns, back_says, back_takes, back_cases}
-use Rattle.vbd_laws.proofs.MovesFront.{front_move_is, front_move_none}
-use Rattle.vbd_laws.proofs.MovesBack.{back_waits, back_move_is, back_move_none}
+use Rattle.vbd_laws.proofs.MovesTurns.{back_asks, back_learns, back_says, back_takes, back_cases, back_spoken}
+use Rattle.vbd_laws.proofs.MovesBack.{back_waits, after_back_move}
 use Rattle.vbd_laws.proofs.WaitsBackRing.{Stands, sees_step, sees_halts, sees_attaches}
+use Rattle.vbd_laws.proofs.MovesFront.{after_front_move}
 
 -- the machine is fit, and the back's end of the ring sleeps where its last look found nothing
 pub record Knows (w : World) (c : Check) : Type 0 where
@@ -45,12 +44,7 @@ pub record Knows (w : World) (c : Check) : Type 0 where
 
 -- its keys and its watch leave the check
 keys_check : (b : BackBusAsk) (page : Mapping) (consumer : ℕ) (x : BackAnswer) (c : Check) → back.speaks b ≡ true → back_checks page consumer (back.key_ask b) x c ≡ c
-keys_check bus_ask.Watch page consumer x c says = refl
-keys_check bus_ask.GetState page consumer x c says = refl
-keys_check (bus_ask.GetKey key) page consumer x c says = refl
-keys_check (bus_ask.SetState s) page consumer x c says = refl
-keys_check (bus_ask.SetKey key value) page consumer x c says = refl
-keys_check b page consumer x c says = absurd (true≢false (sym says))
+keys_check b page consumer x c = back_spoken (λ a. back_checks page consumer (back.key_ask a) x c ≡ c) refl refl (λ key. refl) (λ s. refl) (λ key value. refl) b
 
 -- what an answer to its negotiation makes of its end of the ring
 led : (why : Option BackHalt) (reads : Bool) (b : BackView) (r : ends.View) (c : Check) → Stands r c → Stands (back_step.ring_led why reads b r) c
@@ -93,14 +87,6 @@ goes w c a k =
 abbrev StandsIn : Check → World → Type 0
 StandsIn c u = Stands u.rings.back c
 
-back_turns : (w : World) (c : Check) (act : Option BackAct) → Knows w c → back_turn w ≡ act → StandsIn (back_check_by w act c) (happens w BackMoves)
-back_turns w c None k e = let is = back_move_none w k.fit e in subst (StandsIn c) (sym is.world) k.ring
-back_turns w c (Some a) k e = let is = back_move_is w a k.fit e in subst (StandsIn (back_check_by w (Some a) c)) (sym is.world) (goes w c a k e)
-
-front_turns : (w : World) (c : Check) (act : Option FrontAct) → Knows w c → front_turn w ≡ act → StandsIn c (happens w FrontMoves)
-front_turns w c None k e = let is = front_move_none w k.fit e in subst (StandsIn c) (sym is.world) k.ring
-front_turns w c (Some a) k e = let is = front_move_is w a k.fit e in subst (StandsIn c) (sym is.world) k.ring
-
 job_turns : (w : World) (c : Check) (number : ℕ) (act : Option BackAct) → Stands w.rings.back c → (let r : rings.World = ring.job_after w.rings number act in Stands r.back c)
 job_turns w c number None is = is
 job_turns w c number (Some a) is = is
@@ -114,8 +100,8 @@ suspends w c is = by_may (rings.may_suspend w.rings)
     by_may false = is
 
 stands_on : (w : World) (h : Happening) (c : Check) → Knows w c → StandsIn (back_check_in w h c) (happens w h)
-stands_on w FrontMoves c k = front_turns w c (front_turn w) k refl
-stands_on w BackMoves c k = back_turns w c (back_turn w) k refl
+stands_on w FrontMoves c k = after_front_move (λ act u. StandsIn c u) w k.fit k.ring (λ a e. k.ring)
+stands_on w BackMoves c k = after_back_move (λ act u. StandsIn (back_check_by w act c) u) w k.fit k.ring (λ a e. goes w c a k e)
 stands_on w (JobMoves number outcome) c k = job_turns w c number (ring.job_turn w.rings number outcome) k.ring
 stands_on w (Closes end.Front) c k = k.ring
 stands_on w (Closes end.Back) c k = k.ring

@@ -8,7 +8,7 @@ use Rattle.blk_base.specs.declared.ask.BackAsk.TheVariants as back_ask
 use Rattle.blk_base.specs.declared.ask.BackAnswer.{BackAnswer}
 use Rattle.blk_base.specs.declared.ask.BackAnswer.TheVariants as answer
 use Rattle.blk_base.specs.declared.moves.BackMover.TheVariants as back_mover
-use Rattle.hypervisor.specs.Act.{FrontAct, BackAct, Took, back_act}
+use Rattle.hypervisor.specs.Act.{BackAct, Took, back_act}
 use Rattle.blk_base.specs.declared.halt.Halt.{Halt}
 use Rattle.blk_back.specs.View as ends
 use Rattle.blk_back.specs.Ask as back_ring
@@ -32,19 +32,19 @@ use Rattle.vbd_back.specs.View as back_view
 use Rattle.vbd_back.specs.Ask as back
 use Rattle.vbd_back.specs.Step as back_step
 use Rattle.vbd_model.specs.World.{World, start_of, backend_of}
-use Rattle.vbd_model.specs.Happening.{Happening, FrontMoves, BackMoves, Closes, Suspends, front_turn, back_turn, back_does, halted_at, renewed_bus, happens, after}
+use Rattle.vbd_model.specs.Happening.{Happening, FrontMoves, BackMoves, Closes, Suspends, back_turn, back_does, halted_at, renewed_bus, happens, after}
 use Rattle.vbd_model.specs.Fit.{BackGoesWith}
 use Rattle.negotiation_laws.proofs.Choices.{unplugged_cases}
 use Rattle.vbd_laws.specs.Waits as waits
 use Rattle.vbd_laws.specs.Waits.{Check, Awake, Heard, Unwatched, Watching, Fired, Read, back_hears, back_check, back_check_in, back_heard_by, back_heard_in, back_heard, is_serving, BackWaits}
 use Rattle.xenbus_state.specs.declared.keys.FrontKey.{FrontKey}
 use Rattle.vbd_laws.proofs.FitBackBus.{waits_reading}
-use Rattle.vbd_laws.proofs.MovesTurns.{back_asks, back_learns, back_says, back_takes, back_cases, back_told}
-use Rattle.vbd_laws.proofs.MovesFront.{front_move_is, front_move_none}
-use Rattle.vbd_laws.proofs.MovesBack.{back_move_is, back_move_none}
+use Rattle.vbd_laws.proofs.MovesTurns.{back_asks, back_learns, back_says, back_takes, back_cases, back_told, back_spoken}
 use Rattle.vbd_laws.proofs.WaitsBack.{Knows, knows_start, knows_on, knows_after}
 use Rattle.vbd_laws.proofs.WaitsBackCases.{MayWait, BusWaits, bus_waits, bus_asks_on, only_rests, unmaps_some, closed_so, may_wait, waits as waits_so}
 use Rattle.vbd_laws.proofs.WaitsBackHeard.{IsDealt, Connects, HearsAt, Hears, told_hears, settled_hears, caught_hears, follows_hears, heard_waiting, woken_hears}
+use Rattle.vbd_laws.proofs.MovesFront.{after_front_move}
+use Rattle.vbd_laws.proofs.MovesBack.{after_back_move}
 
 -- an ask for no key hears a watch alone
 ring_heard : (a : BackAsk) (x : BackAnswer) (h : Heard) → IsBacks a → back_ring.IsAnswer a x → back_hears a x h ≡ heard_waiting x h
@@ -79,12 +79,7 @@ is_wait_ask b is = absurd (true≢false (sym is))
 
 -- a negotiation that speaks while its end of the ring is within a step learns nothing
 speaking_left : (b : BackBusAsk) (v : BackView) (a : BackAnswer) → back.speaks b ≡ true → back_step.followed b v a ≡ v
-speaking_left bus_ask.Watch v a says = refl
-speaking_left bus_ask.GetState v a says = refl
-speaking_left (bus_ask.GetKey key) v a says = refl
-speaking_left (bus_ask.SetState s) v a says = refl
-speaking_left (bus_ask.SetKey key value) v a says = refl
-speaking_left b v a says = absurd (true≢false (sym says))
+speaking_left b v a = back_spoken (λ asked. back_step.followed asked v a ≡ v) refl refl (λ key. refl) (λ s. refl) (λ key value. refl) b
 
 module _ (w : World) (c : Check) (h : Heard) (k : Knows w c) (l : Hears w.back h) where
   follows_so : (x : BackAnswer) → back_ring.IsAnswer (back_ring.ask_of w.rings.back) x → (back_ring.ask_of w.rings.back ≡ back_ask.Wait → back.ask_of (backend_of w) ≡ back_ask.Wait)
@@ -140,14 +135,6 @@ goes w c h a k l =
 abbrev HearsIn : Heard → World → Type 0
 HearsIn h u = Hears u.back h
 
-back_turns : (w : World) (c : Check) (h : Heard) (act : Option BackAct) → Knows w c → Hears w.back h → back_turn w ≡ act → HearsIn (back_heard_by w act h) (happens w BackMoves)
-back_turns w c h None k l e = let is = back_move_none w k.fit e in subst (HearsIn h) (sym is.world) l
-back_turns w c h (Some a) k l e = let is = back_move_is w a k.fit e in subst (HearsIn (back_heard_by w (Some a) h)) (sym is.world) (goes w c h a k l e)
-
-front_turns : (w : World) (c : Check) (h : Heard) (act : Option FrontAct) → Knows w c → Hears w.back h → front_turn w ≡ act → HearsIn h (happens w FrontMoves)
-front_turns w c h None k l e = let is = front_move_none w k.fit e in subst (HearsIn h) (sym is.world) l
-front_turns w c h (Some a) k l e = let is = front_move_is w a k.fit e in subst (HearsIn h) (sym is.world) l
-
 close_turns : (v : BackView) (h : Heard) → Hears v h → Hears (unplugged v) h
 close_turns v h l = unplugged_cases (λ (u : BackView). Hears u h) v l l
 
@@ -155,17 +142,13 @@ close_turns v h l = unplugged_cases (λ (u : BackView). Hears u h) v l l
 suspends : (w : World) (h : Heard) → Hears w.back h → HearsIn (back_heard_in w Suspends h) (happens w Suspends)
 suspends w h l = by_may (rings.may_suspend w.rings)
   where
-    by_open : (o : Bool) → Hears (renewed_bus o w.back) Unwatched
-    by_open true = refl
-    by_open false = tt
-
     by_may : (may : Bool) → Hears (if may then renewed_bus (is_open w.rings.front.stage) w.back else w.back) (if may then Unwatched else h)
-    by_may true = by_open (is_open w.rings.front.stage)
+    by_may true = elim (is_open w.rings.front.stage) as (λ o. Hears (renewed_bus o w.back) Unwatched) [ true ↦ refl | false ↦ tt ]
     by_may false = l
 
 hears_on : (w : World) (happening : Happening) (c : Check) (h : Heard) → Knows w c → Hears w.back h → HearsIn (back_heard_in w happening h) (happens w happening)
-hears_on w FrontMoves c h k l = front_turns w c h (front_turn w) k l refl
-hears_on w BackMoves c h k l = back_turns w c h (back_turn w) k l refl
+hears_on w FrontMoves c h k l = after_front_move (λ act u. HearsIn h u) w k.fit l (λ a e. l)
+hears_on w BackMoves c h k l = after_back_move (λ act u. HearsIn (back_heard_by w act h) u) w k.fit l (λ a e. goes w c h a k l e)
 hears_on w (Closes end.Front) c h k l = l
 hears_on w (Closes end.Back) c h k l = close_turns w.back h l
 hears_on w Suspends c h k l = suspends w h l

@@ -26,8 +26,8 @@ use Rattle.vbd_back.specs.Ask as back
 use Rattle.vbd_model.specs.World.{World, backend_of}
 use Rattle.vbd_model.specs.Fit.{is_serving as serves_ring, BackRests, BackReads, IsAborting, IsUnmapping, BackGoesWith}
 use Rattle.vbd_laws.specs.Waits.{Check, Asleep, is_serving}
-use Rattle.vbd_laws.proofs.MovesTurns.{back_asks}
-use Rattle.vbd_laws.proofs.WaitsFrontRing.{sleeps}
+use Rattle.vbd_laws.proofs.MovesTurns.{back_asks, back_key_asks, within_moves}
+use Rattle.vbd_laws.proofs.WaitsChecks.{sleeps, asleep_is, differs}
 use Rattle.vbd_laws.proofs.WaitsBackRing.{Sees}
 use Rattle.vbd_laws.proofs.WaitsBack.{Knows}
 
@@ -45,23 +45,12 @@ pub record Sleeps (w : World) (c : Check) : Type 0 where
 abbrev pub MayWait : World → Check → Type 0
 MayWait w c = ((w.back.state ≡ state.InitWait) × Rests w) ⊎ Sleeps w c ⊎ (w.back.state ≡ state.Closed)
 
-asleep_is : (c : Check) → sleeps c ≡ true → c ≡ Asleep
-asleep_is Asleep is = refl
-asleep_is c is = absurd (true≢false (sym is))
-
 -- an ask that is no wait
 pub asks_on : {A : Type 0} (a : BackAsk) → is_wait a ≡ false → a ≡ back_ask.Wait → A
 asks_on a on e = absurd (true≢false (sym (ap is_wait e) ∙ on))
 
 pub bus_asks_on : {A : Type 0} (b : BackBusAsk) → back_view.rests b ≡ false → b ≡ bus_ask.Wait → A
 bus_asks_on b on e = absurd (true≢false (sym (ap back_view.rests e) ∙ on))
-
-abbrev is_closed : BusState → Bool
-is_closed state.Closed = true
-is_closed s = false
-
-differs : {A : Type 0} (b c : BusState) → b ≡ state.Closed → b ≡ c → is_closed c ≡ false → A
-differs b c own is other = absurd (true≢false (sym (ap is_closed own) ∙ (ap is_closed is ∙ other)))
 
 above : {A : Type 0} (b : BusState) → b ≡ state.Closed → state_number b < 6 → A
 above b own low = absurd (let six : state_number b ≡ 6 = ap state_number own in omega (arith, six, low))
@@ -128,52 +117,16 @@ serving_moves ring_stage.MapRing serves = absurd (true≢false (sym serves))
 serving_moves ring_stage.Bind serves = absurd (true≢false (sym serves))
 serving_moves s serves = refl
 
--- within a step of its end of the ring it asks for the next move of that, whatever its negotiation asks
-within_moves : (b : BackBusAsk) (s : BackStage) → back.is_between s ≡ false → back.speaks b ≡ true → back.ring_moves b s ≡ back.ring_moves bus_ask.Wait s
-within_moves bus_ask.Watch s within says = any s
-  where
-    any : (s : BackStage) → back.ring_moves bus_ask.Watch s ≡ back.ring_moves bus_ask.Wait s
-    any ring_stage.InitWait = refl
-    any s = refl
-within_moves bus_ask.GetState s within says = any s
-  where
-    any : (s : BackStage) → back.ring_moves bus_ask.GetState s ≡ back.ring_moves bus_ask.Wait s
-    any ring_stage.InitWait = refl
-    any s = refl
-within_moves (bus_ask.GetKey key) s within says = any s
-  where
-    any : (s : BackStage) → back.ring_moves (bus_ask.GetKey key) s ≡ back.ring_moves bus_ask.Wait s
-    any ring_stage.InitWait = refl
-    any s = refl
-within_moves (bus_ask.SetState own) s within says = any s
-  where
-    any : (s : BackStage) → back.ring_moves (bus_ask.SetState own) s ≡ back.ring_moves bus_ask.Wait s
-    any ring_stage.InitWait = refl
-    any s = refl
-within_moves (bus_ask.SetKey key value) s within says = any s
-  where
-    any : (s : BackStage) → back.ring_moves (bus_ask.SetKey key value) s ≡ back.ring_moves bus_ask.Wait s
-    any ring_stage.InitWait = refl
-    any s = refl
-within_moves b s within says = absurd (true≢false (sym says))
-
-within_asks : (s : BackStage) (f : ends.View) → back.is_between s ≡ false → (back.ring_moves bus_ask.Wait s ≡ true) × (is_wait (back_ring.ask_at s f) ≡ false)
-within_asks (ring_stage.Fetch k) f within = (refl, refl)
-within_asks (ring_stage.ReplyHigh r) f within = (refl, refl)
-within_asks (ring_stage.ReplyLast r) f within = (refl, refl)
-within_asks (ring_stage.Producer r) f within = (refl, refl)
-within_asks (ring_stage.ProducerFence old) f within = (refl, refl)
-within_asks (ring_stage.ResponseEvent old) f within = (refl, refl)
-within_asks ring_stage.Send f within = (refl, refl)
+-- an end of the ring that is within a step asks for more than a wait
+within_asks : (s : BackStage) (f : ends.View) → back.is_between s ≡ false → is_wait (back_ring.ask_at s f) ≡ false
+within_asks (ring_stage.Fetch k) f within = refl
+within_asks (ring_stage.ReplyHigh r) f within = refl
+within_asks (ring_stage.ReplyLast r) f within = refl
+within_asks (ring_stage.Producer r) f within = refl
+within_asks (ring_stage.ProducerFence old) f within = refl
+within_asks (ring_stage.ResponseEvent old) f within = refl
+within_asks ring_stage.Send f within = refl
 within_asks s f within = absurd (true≢false within)
-
-key_asks : (b : BackBusAsk) → back.speaks b ≡ true → is_wait (back.key_ask b) ≡ false
-key_asks bus_ask.Watch says = refl
-key_asks bus_ask.GetState says = refl
-key_asks (bus_ask.GetKey key) says = refl
-key_asks (bus_ask.SetState s) says = refl
-key_asks (bus_ask.SetKey key value) says = refl
-key_asks b says = absurd (true≢false (sym says))
 
 -- between two steps and asleep, one that serves is in its loop
 loops : (s : BackStage) (c : Check) (asleep : Bool) → serves_ring s ≡ true → back.is_between s ≡ true → c ≡ Asleep → Sees s c asleep → s ≡ ring_stage.Loop
@@ -218,8 +171,8 @@ module _ (w : World) (c : Check) (k : Knows w c) where
       moves_is between is = ap (λ (t : Bool). t && back.is_between r) says ∙ is
 
       by_between : (between : Bool) → back.is_between r ≡ between → A
-      by_between true is = asks_on (back.key_ask b) (key_asks b says) (sym (ap (λ (t : Bool). if t then back.key_ask b else back.ring_ask (back.ring_moves b r) v) (moves_is true is)) ∙ e)
-      by_between false is = let asks = within_asks r w.rings.back is in moving b r refl (moves_is false is) (within_moves b r is says ∙ asks.0) asks.1 e
+      by_between true is = asks_on (back.key_ask b) (back_key_asks b says) (sym (ap (λ (t : Bool). if t then back.key_ask b else back.ring_ask (back.ring_moves b r) v) (moves_is true is)) ∙ e)
+      by_between false is = moving b r refl (moves_is false is) (within_moves b r says is) (within_asks r w.rings.back is) e
 
   abbrev Only : BackBusStage → Type 0
   Only s = back.ask_at (bus.ask_at s w.back) v ≡ back_ask.Wait → bus.ask_at s w.back ≡ bus_ask.Wait

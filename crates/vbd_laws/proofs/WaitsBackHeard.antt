@@ -2,6 +2,7 @@
 use Rattle.std.proofs.Common.{inl, inr, ◌≡◌, ◌∙◌, ap, sym, subst, refl, ℕ, ◌+◌, ◌&&◌, Bool, true, false, true≢false, if◌then◌else◌, List, [], ◌∷◌, length}
 use Rattle.std.specs.Prelude.{Option, Some, None, nat_lt}
 use Rattle.std.specs.Str.{bytes_eq}
+use Rattle.std.proofs.Math.Bool.{and-false}
 use Rattle.line_text.proofs.Both.{both_true}
 use Rattle.blk_base.specs.declared.parts.Mapping.{Mapping}
 use Rattle.blk_base.specs.declared.ask.BackAnswer.{BackAnswer}
@@ -11,7 +12,6 @@ use Rattle.blk_back.specs.declared.stage.BackStage.TheVariants as ring
 use Rattle.blk_base.specs.declared.halt.Halt.{Halt}
 use Rattle.xenbus_state.specs.declared.keys.FrontKey.{FrontKey}
 use Rattle.xenbus_state.specs.declared.keys.FrontKey.TheVariants as front_key
-use Rattle.xenbus_state.specs.declared.keys.BackKey.{BackKey}
 use Rattle.xenbus_state.specs.declared.state.BusState.{BusState}
 use Rattle.xenbus_state.specs.declared.state.BusState.TheVariants as state
 use Rattle.xenbus_state.specs.declared.stage.BackBusStage.{BackBusStage}
@@ -131,14 +131,6 @@ key_hears : (k : FrontKey) (text : Option (List ℕ)) (v : BackView) (h : Heard)
 key_hears k text v h connects = reads_key (λ (o : Option BackView). Hears (kept_or_halted o v) h) k text v (λ u r. connects_at u.stage u.state h (reads_on k v u r) connects) tt
 
 -- an answer to what it asked for at a stage
-feature_hears : (next : Option BackKey) (own : BusState) (h : Heard) → h ≡ Unwatched → HearsAt (after_feature next) own h
-feature_hears None own h is = is
-feature_hears (Some k) own h is = is
-
-fact_hears : (next : Option BackKey) (own : BusState) (h : Heard) → Connects h → HearsAt (after_fact next) own h
-fact_hears None own h is = is
-fact_hears (Some k) own h is = is
-
 connected_dealt : (h : Heard) → Connects h → IsDealt state.Connected h
 connected_dealt (Read (Some state.Initialised)) is = refl
 connected_dealt (Read (Some state.Connected)) is = refl
@@ -150,7 +142,7 @@ stays s v h here is = subst (λ (t : BackBusStage). HearsAt t v.state h) (sym he
 -- its negotiation speaks
 says_at : (s : BackBusStage) (v : BackView) (r : BackStage) (h : Heard) (a : BackAnswer) → v.stage ≡ s → BackGoesWith s v.state r → HearsAt s v.state h → back.speaks (ask_at s v) ≡ true → IsAnswer (ask_at s v) a
     → Hears (step_at s v a) (back_hears (back.key_ask (ask_at s v)) a h)
-says_at (stage.Publish key) v r h answer.Done here goes is says allowed = feature_hears (next_feature key) v.state h is
+says_at (stage.Publish key) v r h answer.Done here goes is says allowed = elim (next_feature key) as (λ next. HearsAt (after_feature next) v.state h) [ None ↦ is | Some k ↦ is ]
 says_at (stage.WriteState state.InitWait) v r h answer.Done here goes is says allowed = is
 says_at (stage.WriteState state.Connected) v r h answer.Done here goes is says allowed = connected_dealt h is
 says_at (stage.WriteState state.Closing) v r h answer.Done here goes is says allowed = tt
@@ -160,7 +152,7 @@ says_at stage.Watch v r h answer.Done here goes is says allowed = tt
 says_at stage.ReadState v r h (answer.Key text) here goes is says allowed = acted_hears v (state_read text)
 says_at (stage.ReadKey key) v r h (answer.Key text) here goes is says allowed =
     subst (λ (x : Heard). Hears (kept_or_halted (key_read key text v) v) x) (sym (key_heard key text h)) (key_hears key text v h is)
-says_at (stage.PublishFact key) v r h answer.Done here goes is says allowed = fact_hears (next_fact key) v.state h is
+says_at (stage.PublishFact key) v r h answer.Done here goes is says allowed = elim (next_fact key) as (λ next. HearsAt (after_fact next) v.state h) [ None ↦ is | Some k ↦ is ]
 says_at (stage.Publish key) v r h a here goes is says allowed = absurd allowed
 says_at (stage.WriteState s) v r h a here goes is says allowed = absurd allowed
 says_at stage.Watch v r h a here goes is says allowed = absurd allowed
@@ -236,12 +228,8 @@ moved_hears v h a quiet m is = subst (λ (b : Bool). Hears (if b then record v {
 
 -- the other mappings are unmapped, or its end of the ring halted
 step_gives : (v : BackView) (h : Heard) → v.stage ≡ stage.UnmapOthers → Hears (step_of v answer.Done) h
-step_gives v h here = by_test (v.unplugged && says_closing_at v.stage v.state) (ap (λ (s : BackBusStage). v.unplugged && says_closing_at s v.state) here ∙ never v.unplugged)
+step_gives v h here = by_test (v.unplugged && says_closing_at v.stage v.state) (ap (λ (s : BackBusStage). v.unplugged && says_closing_at s v.state) here ∙ and-false v.unplugged)
   where
-    never : (b : Bool) → (b && false) ≡ false
-    never true = refl
-    never false = refl
-
     by_test : (b : Bool) → b ≡ false → Hears (if b then record v { state = state.Closing } else step_at v.stage v answer.Done) h
     by_test true e = absurd (true≢false e)
     by_test false e = subst (λ (s : BackBusStage). Hears (step_at s v answer.Done) h) (sym here) (giving_hears v.pages v.bound v.state v.state h)
@@ -307,11 +295,7 @@ woken_hears v h (answer.Watched path) is e = by_bus (bus_waits v e)
         (subst (λ (t : BackBusStage). Hears (step_at t v (answer.Watched path)) Fired) (sym here) there)
 
     quiet_at : (s : BackBusStage) → v.stage ≡ s → says_closing_at s v.state ≡ false → says_closing v ≡ false
-    quiet_at s here none = ap (λ (t : BackBusStage). v.unplugged && says_closing_at t v.state) here ∙ (ap (λ (b : Bool). v.unplugged && b) none ∙ never v.unplugged)
-      where
-        never : (b : Bool) → (b && false) ≡ false
-        never true = refl
-        never false = refl
+    quiet_at s here none = ap (λ (t : BackBusStage). v.unplugged && says_closing_at t v.state) here ∙ (ap (λ (b : Bool). v.unplugged && b) none ∙ and-false v.unplugged)
 
     by_bus : BusWaits v → Hears (step_of v (answer.Watched path)) Fired
     by_bus (inl found) = told stage.Rest found.0 found.1 refl

@@ -20,7 +20,7 @@ use Rattle.blk_back.specs.Step.{unmapping_next, unbound, bound, other_pages, ove
 use Rattle.line_text.proofs.Both.{both_true}
 use Rattle.split_model.proofs.States.{halts_cases}
 use Rattle.vbd_laws.specs.Waits.{Check, Awake, Stored, Fenced, fences, looks, others, writes, is_page_word, back_checks}
-use Rattle.vbd_laws.proofs.WaitsFrontRing.{sleeps, is_fenced, others_sleep, others_unfenced, fences_sleep, writes_sleep, stored_awake, looks_awake, reads_awake, reads_unfenced, IsAwake, IsAlert, IsTold}
+use Rattle.vbd_laws.proofs.WaitsChecks.{sleeps, is_fenced, others_sleep, others_unfenced, fences_sleep, writes_sleep, stored_awake, looks_awake, reads_awake, reads_unfenced, IsAwake, IsAlert, IsTold}
 
 abbrev pub Sees : BackStage → Check → (asleep : Bool) → Type 0
 Sees stage.InitWait c asleep = IsAwake c asleep

@@ -1,6 +1,6 @@
 -- What is known of the front at every moment, and where its negotiation and its end of the ring ask for nothing.
 use Rattle.std.proofs.Common.{◌⊎◌, inl, inr, ◌≡◌, ◌∙◌, ap, sym, subst, refl, ℕ, ◌≤◌, ◌&&◌, ◌||◌, Bool, true, false, true≢false, if◌then◌else◌, List, [], ◌∷◌}
-use Rattle.std.specs.Prelude.{Option, Some, None, IsSome, ◌==◌}
+use Rattle.std.specs.Prelude.{Option, Some, None, ◌==◌}
 use Rattle.std.proofs.lemmas.Option.{none-some}
 use Rattle.blk_base.specs.Options.{Options}
 use Rattle.blk_base.specs.declared.parts.End.TheVariants as end
@@ -11,7 +11,6 @@ use Rattle.ring_words.specs.Ring.{responses_of}
 use Rattle.hypervisor.specs.Act.{FrontAct, BackAct, front_act, front_watched, watch_next}
 use Rattle.blk_front.specs.declared.stage.FrontStage.{FrontStage}
 use Rattle.blk_front.specs.declared.stage.FrontStage.TheVariants as ring_stage
-use Rattle.blk_front.specs.declared.stage.Ending.{Ending}
 use Rattle.blk_front.specs.declared.request.Request.{Request}
 use Rattle.blk_front.specs.declared.request.Transfer.{Transfer}
 use Rattle.blk_front.specs.declared.request.Transfer.TheVariants as transfer
@@ -39,16 +38,17 @@ use Rattle.vbd_front.specs.View as front_view
 use Rattle.vbd_front.specs.Ask as front
 use Rattle.vbd_front.specs.Step as front_step
 use Rattle.vbd_model.specs.World.{World, start_of, frontend_of}
-use Rattle.vbd_model.specs.Happening.{Happening, FrontMoves, BackMoves, JobMoves, Closes, Submits, Suspends, front_turn, back_turn, front_does, entered_at, happens, after}
+use Rattle.vbd_model.specs.Happening.{Happening, FrontMoves, BackMoves, JobMoves, Closes, Submits, Suspends, front_turn, front_does, entered_at, happens, after}
 use Rattle.vbd_model.specs.Fit.{IsFit}
 use Rattle.negotiation_laws.proofs.Choices.{either}
 use Rattle.vbd_laws.specs.Waits.{Check, Awake, front_checks, front_check_by, front_check_in, front_check}
 use Rattle.vbd_laws.proofs.Fit.{fit_start, fit_happens}
-use Rattle.vbd_laws.proofs.MovesTurns.{front_asks, front_says, front_cases}
-use Rattle.vbd_laws.proofs.MovesFront.{front_waits, front_move_is, front_move_none}
-use Rattle.vbd_laws.proofs.MovesBack.{back_move_is, back_move_none}
+use Rattle.vbd_laws.proofs.MovesTurns.{front_asks, front_says, front_cases, front_spoken}
+use Rattle.vbd_laws.proofs.MovesFront.{front_waits, after_front_move}
 use Rattle.vbd_laws.proofs.NegotiatedFront.{HasInHand}
-use Rattle.vbd_laws.proofs.WaitsFrontRing.{StandsAt, Stands, stands_step, stands_enters, stands_submit, stands_resumed}
+use Rattle.vbd_laws.proofs.WaitsFrontRing.{StandsAt, Stands, stands_step, stands_resumed, asks_some}
+use Rattle.vbd_laws.proofs.WaitsFrontEnters.{stands_enters, stands_submit}
+use Rattle.vbd_laws.proofs.MovesBack.{after_back_move}
 
 -- the machine is fit, and the front's end of the ring sleeps where its last look found nothing
 pub record Knows (w : World) (c : Check) : Type 0 where
@@ -74,12 +74,7 @@ all_enter (s ∷ states) f c is = all_enter states (enters s f) c (stands_enters
 
 -- its keys and its watch leave the check
 keys_check : (b : FrontBusAsk) (consumer : ℕ) (x : FrontAnswer) (c : Check) → front.speaks b ≡ true → front_checks consumer (front.key_ask b) x c ≡ c
-keys_check bus_ask.Watch consumer x c says = refl
-keys_check bus_ask.GetState consumer x c says = refl
-keys_check (bus_ask.GetKey key) consumer x c says = refl
-keys_check (bus_ask.SetState s) consumer x c says = refl
-keys_check (bus_ask.SetKey key value) consumer x c says = refl
-keys_check b consumer x c says = absurd (true≢false (sym says))
+keys_check b consumer x c = front_spoken (λ a. front_checks consumer (front.key_ask a) x c ≡ c) refl refl (λ key. refl) (λ s. refl) (λ key value. refl) b
 
 abbrev Goes : World → Check → FrontAct → List ring.Happening → FrontAsk → (FrontAnswer → front_view.View) → Type 0
 Goes w c a does ask step = front_act w.rings.under ask ≡ Some a → (let v : front_view.View = step a.answer in Stands v.ring (front_checks w.rings.front.ring.indices.cons ask a.answer c))
@@ -111,17 +106,6 @@ goes w c a k = front_cases (Goes w c a) w (says_goes w c a k) (λ quiet moves. m
 abbrev StandsIn : Check → World → Type 0
 StandsIn c u = Stands u.rings.front c
 
-front_turns : (w : World) (c : Check) (act : Option FrontAct) → Knows w c → front_turn w ≡ act → StandsIn (front_check_by w act c) (happens w FrontMoves)
-front_turns w c None k e = let is = front_move_none w k.fit e in subst (StandsIn c) (sym is.world) k.ring
-front_turns w c (Some a) k e =
-    let is = front_move_is w a k.fit e in
-    let v : front_view.View = front_step.step_of (frontend_of w) a.answer in
-    subst (StandsIn (front_check_by w (Some a) c)) (sym is.world) (heard_at v.ring.stage v.ring (front_check_by w (Some a) c) (goes w c a k e))
-
-back_turns : (w : World) (c : Check) (act : Option BackAct) → Knows w c → back_turn w ≡ act → StandsIn c (happens w BackMoves)
-back_turns w c None k e = let is = back_move_none w k.fit e in subst (StandsIn c) (sym is.world) k.ring
-back_turns w c (Some a) k e = let is = back_move_is w a k.fit e in subst (StandsIn c) (sym is.world) k.ring
-
 job_turns : (w : World) (c : Check) (number : ℕ) (act : Option BackAct) → Stands w.rings.front c → (let r : rings.World = ring.job_after w.rings number act in Stands r.front c)
 job_turns w c number None is = is
 job_turns w c number (Some a) is = is
@@ -130,17 +114,15 @@ job_turns w c number (Some a) is = is
 suspends : (w : World) (c : Check) → Stands w.rings.front c → StandsIn (front_check_in w Suspends c) (happens w Suspends)
 suspends w c is = by_may (rings.may_suspend w.rings)
   where
-    by_open : (o : Bool) → Stands (if o then resumed w.rings.front else w.rings.front) (if o then Awake else c)
-    by_open true = stands_resumed w.rings.front c is
-    by_open false = is
-
     by_may : (may : Bool) → Stands (let r : rings.World = if may then rings.suspended w.rings else w.rings in r.front) (if may && is_open w.rings.front.stage then Awake else c)
-    by_may true = by_open (is_open w.rings.front.stage)
+    by_may true = elim (is_open w.rings.front.stage) as (λ o. Stands (if o then resumed w.rings.front else w.rings.front) (if o then Awake else c)) [ true ↦ stands_resumed w.rings.front c is | false ↦ is ]
     by_may false = is
 
 stands_on : (w : World) (h : Happening) (c : Check) → Knows w c → StandsIn (front_check_in w h c) (happens w h)
-stands_on w FrontMoves c k = front_turns w c (front_turn w) k refl
-stands_on w BackMoves c k = back_turns w c (back_turn w) k refl
+stands_on w FrontMoves c k =
+    after_front_move (λ act u. StandsIn (front_check_by w act c) u) w k.fit k.ring
+    (λ a e. let v : front_view.View = front_step.step_of (frontend_of w) a.answer in heard_at v.ring.stage v.ring (front_check_by w (Some a) c) (goes w c a k e))
+stands_on w BackMoves c k = after_back_move (λ act u. StandsIn c u) w k.fit k.ring (λ a e. k.ring)
 stands_on w (JobMoves number outcome) c k = job_turns w c number (ring.job_turn w.rings number outcome) k.ring
 stands_on w (Closes end.Front) c k = stands_enters enter.Closing w.rings.front c k.ring
 stands_on w (Closes end.Back) c k = k.ring
@@ -202,14 +184,14 @@ bus_waits v idle e = by_stage v.stage refl e
     by_stage stage.EndOtherGrants here e = bus_asks_on bus_ask.EndOtherGrants refl e
     by_stage stage.ClosePort here e = bus_asks_on bus_ask.ClosePort refl e
 
+pub issue_asks : (f : ends.View) (r : Request) (way : Transfer) → is_wait (front_ring.issue_ask f r way) ≡ false
+issue_asks f r transfer.Read = either (λ (a : FrontAsk). is_wait a ≡ false) (is_indirect r.count) (front_ring.page_ask (Some r) 0) (front_ring.name_ask (Some r) 0) refl refl
+issue_asks f r other = refl
+
 -- a connected front's end of the ring waits in its loop alone
 pub loop_waits : (f : ends.View) → front_ring.loop_ask f (ends.next_request f) ≡ front_ask.Wait → (ends.next_request f ≡ None) × ((f.ring.asleep || front_ring.is_through f) ≡ true)
 loop_waits f e = by_next (ends.next_request f) refl e
   where
-    begins : (r : Request) (way : Transfer) → is_wait (front_ring.issue_ask f r way) ≡ false
-    begins r transfer.Read = either (λ (a : FrontAsk). is_wait a ≡ false) (is_indirect r.count) (front_ring.page_ask (Some r) 0) (front_ring.name_ask (Some r) 0) refl refl
-    begins r other = refl
-
     by_none : (waits none : Bool) → (f.ring.asleep || front_ring.is_through f) ≡ waits
         → (if waits then front_ask.Wait else (if none then front_ask.Read ends.ring_frame 2 else front_ask.Read (ends.slot_frame f.shape f.ring.indices.cons 0) (ends.slot_word f.shape f.ring.indices.cons 0))) ≡ front_ask.Wait → (f.ring.asleep || front_ring.is_through f) ≡ true
     by_none true none t e = t
@@ -217,46 +199,18 @@ loop_waits f e = by_next (ends.next_request f) refl e
     by_none false false t e = asks_on _ refl e
 
     by_next : (next : Option Request) → ends.next_request f ≡ next → front_ring.loop_ask f next ≡ front_ask.Wait → (ends.next_request f ≡ None) × ((f.ring.asleep || front_ring.is_through f) ≡ true)
-    by_next (Some r) n e = asks_on (front_ring.issue_ask f r r.transfer) (begins r r.transfer) e
+    by_next (Some r) n e = asks_on (front_ring.issue_ask f r r.transfer) (issue_asks f r r.transfer) e
     by_next None n e = (n, by_none (f.ring.asleep || front_ring.is_through f) (responses_of f.ring.indices f.ring.seen == 0) refl e)
 
 pub ready_waits : (s : FrontStage) (f : ends.View) (c : Check) → is_ready s ≡ true → StandsAt s f c → front_ring.ask_at s f ≡ front_ask.Wait → s ≡ ring_stage.Loop
 ready_waits ring_stage.Loop f c ready is e = refl
-ready_waits (ring_stage.Data n) f c ready is e = by_next (ends.next_request f) is.1 e
-  where
-    by_next : (r : Option Request) → IsSome r → front_ring.data_ask r n ≡ front_ask.Wait → ring_stage.Data n ≡ ring_stage.Loop
-    by_next None some e = absurd (true≢false (sym some))
-    by_next (Some r) some e = asks_on _ refl e
-ready_waits (ring_stage.Pages n) f c ready is e = by_next (ends.next_request f) is.1 e
-  where
-    by_next : (r : Option Request) → IsSome r → front_ring.page_ask r n ≡ front_ask.Wait → ring_stage.Pages n ≡ ring_stage.Loop
-    by_next None some e = absurd (true≢false (sym some))
-    by_next (Some r) some e = asks_on _ refl e
-ready_waits (ring_stage.GrantFrame n) f c ready is e = by_next (ends.next_request f) is.1 e
-  where
-    by_next : (r : Option Request) → IsSome r → front_ring.name_ask r n ≡ front_ask.Wait → ring_stage.GrantFrame n ≡ ring_stage.Loop
-    by_next None some e = absurd (true≢false (sym some))
-    by_next (Some r) some e = asks_on _ refl e
-ready_waits (ring_stage.GrantFlags n) f c ready is e = by_next (ends.next_request f) is.1 e
-  where
-    by_next : (r : Option Request) → IsSome r → front_ring.grant_ask r n ≡ front_ask.Wait → ring_stage.GrantFlags n ≡ ring_stage.Loop
-    by_next None some e = absurd (true≢false (sym some))
-    by_next (Some r) some e = asks_on _ refl e
-ready_waits (ring_stage.GrantRead n) f c ready is e = by_ending f.ending is.1 e
-  where
-    by_ending : (r : Option Ending) → IsSome r → front_ring.revoke_ask r n ≡ front_ask.Wait → ring_stage.GrantRead n ≡ ring_stage.Loop
-    by_ending None some e = absurd (true≢false (sym some))
-    by_ending (Some r) some e = asks_on _ refl e
-ready_waits (ring_stage.GrantEnd n seen) f c ready is e = by_ending f.ending is.1 e
-  where
-    by_ending : (r : Option Ending) → IsSome r → front_ring.end_ask r n seen ≡ front_ask.Wait → ring_stage.GrantEnd n seen ≡ ring_stage.Loop
-    by_ending None some e = absurd (true≢false (sym some))
-    by_ending (Some r) some e = asks_on _ refl e
-ready_waits (ring_stage.ReadData n) f c ready is e = by_ending f.ending is.1 e
-  where
-    by_ending : (r : Option Ending) → IsSome r → front_ring.read_ask r n ≡ front_ask.Wait → ring_stage.ReadData n ≡ ring_stage.Loop
-    by_ending None some e = absurd (true≢false (sym some))
-    by_ending (Some r) some e = asks_on _ refl e
+ready_waits (ring_stage.Data n) f c ready is e = asks_some (ends.next_request f) (λ r. front_ring.data_ask r n) is.1 (λ r. refl) e
+ready_waits (ring_stage.Pages n) f c ready is e = asks_some (ends.next_request f) (λ r. front_ring.page_ask r n) is.1 (λ r. refl) e
+ready_waits (ring_stage.GrantFrame n) f c ready is e = asks_some (ends.next_request f) (λ r. front_ring.name_ask r n) is.1 (λ r. refl) e
+ready_waits (ring_stage.GrantFlags n) f c ready is e = asks_some (ends.next_request f) (λ r. front_ring.grant_ask r n) is.1 (λ r. refl) e
+ready_waits (ring_stage.GrantRead n) f c ready is e = asks_some f.ending (λ r. front_ring.revoke_ask r n) is.1 (λ r. refl) e
+ready_waits (ring_stage.GrantEnd n seen) f c ready is e = asks_some f.ending (λ r. front_ring.end_ask r n seen) is.1 (λ r. refl) e
+ready_waits (ring_stage.ReadData n) f c ready is e = asks_some f.ending (λ r. front_ring.read_ask r n) is.1 (λ r. refl) e
 ready_waits (ring_stage.GrantFence place) f c ready is e = asks_on _ refl e
 ready_waits (ring_stage.Slot k) f c ready is e = asks_on _ refl e
 ready_waits ring_stage.Producer f c ready is e = asks_on _ refl e

@@ -36,7 +36,7 @@ use Rattle.vbd_front.specs.View as front_view
 use Rattle.vbd_front.specs.Ask as front
 use Rattle.vbd_front.specs.Step as front_step
 use Rattle.vbd_model.specs.World.{World, start_of, frontend_of}
-use Rattle.vbd_model.specs.Happening.{Happening, FrontMoves, BackMoves, JobMoves, Closes, Submits, Suspends, front_turn, back_turn, front_does, happens, after}
+use Rattle.vbd_model.specs.Happening.{Happening, FrontMoves, BackMoves, JobMoves, Closes, Submits, Suspends, front_does, happens, after}
 use Rattle.vbd_model.specs.Fit.{FrontRests, FrontGoesWith}
 use Rattle.vbd_laws.specs.Waits as waits
 use Rattle.vbd_laws.specs.Waits.{Check, Awake, Heard, Unwatched, Watching, Fired, Read, front_hears, front_check, front_check_in, front_heard_by, front_heard_in, front_heard, is_unserved, FrontWaits}
@@ -45,12 +45,12 @@ use Rattle.vbd_laws.proofs.FitFrontMoves.{left_moves}
 use Rattle.vbd_laws.proofs.FitFront.{asks_cases}
 use Rattle.vbd_laws.proofs.FitSuspended.{anew_at}
 use Rattle.vbd_laws.proofs.MovesTurns.{front_cases, front_told}
-use Rattle.vbd_laws.proofs.MovesFront.{front_move_is, front_move_none}
-use Rattle.vbd_laws.proofs.MovesBack.{back_move_is, back_move_none}
 use Rattle.vbd_laws.proofs.WaitsFront.{Knows, knows_start, knows_on, knows_after, BusWaits, bus_waits}
 use Rattle.vbd_laws.proofs.WaitsFrontCases.{bus_asks, MayWait, rests_whole, may_wait, waits as waits_so}
 use Rattle.vbd_laws.proofs.WaitsFrontHeard.{IsDealt, IsGone, HearsAt, dealt_gone, hears_closed, hears_as}
 use Rattle.vbd_laws.proofs.WaitsFrontMoves.{IsFree, IsWhole, is_early, Listens, rest_gone, says_goes, moves_goes, waits_goes, left_goes}
+use Rattle.vbd_laws.proofs.MovesFront.{after_front_move}
+use Rattle.vbd_laws.proofs.MovesBack.{after_back_move}
 
 abbrev Goes : World → Heard → FrontAct → List ring.Happening → FrontAsk → (FrontAnswer → front_view.View) → Type 0
 Goes w h a does ask step = front_act w.rings.under ask ≡ Some a → (let x : front_view.View = step a.answer in Listens x.bus x.ring (front_hears ask a.answer h))
@@ -69,17 +69,6 @@ goes w c h a k l =
 
 abbrev ListensIn : Heard → World → Type 0
 ListensIn h u = Listens u.front u.rings.front h
-
-front_turns : (w : World) (c : Check) (h : Heard) (act : Option FrontAct) → Knows w c → Listens w.front w.rings.front h → front_turn w ≡ act → ListensIn (front_heard_by w act h) (happens w FrontMoves)
-front_turns w c h None k l e = let is = front_move_none w k.fit e in subst (ListensIn h) (sym is.world) l
-front_turns w c h (Some a) k l e =
-    let is = front_move_is w a k.fit e in
-    let after = goes w c h a k l e in
-    subst (ListensIn (front_heard_by w (Some a) h)) (sym is.world) (record { bus = after.bus; leaves = after.leaves })
-
-back_turns : (w : World) (c : Check) (h : Heard) (act : Option BackAct) → Knows w c → Listens w.front w.rings.front h → back_turn w ≡ act → ListensIn h (happens w BackMoves)
-back_turns w c h None k l e = let is = back_move_none w k.fit e in subst (ListensIn h) (sym is.world) l
-back_turns w c h (Some a) k l e = let is = back_move_is w a k.fit e in subst (ListensIn h) (sym is.world) l
 
 job_turns : (w : World) (h : Heard) (number : ℕ) (act : Option BackAct) → Listens w.front w.rings.front h → (let r : rings.World = ring.job_after w.rings number act in Listens w.front r.front h)
 job_turns w h number None l = l
@@ -134,8 +123,9 @@ suspends w c h k l = by_may (rings.may_suspend w.rings)
     by_may false = l
 
 listens_on : (w : World) (happening : Happening) (c : Check) (h : Heard) → Knows w c → Listens w.front w.rings.front h → ListensIn (front_heard_in w happening h) (happens w happening)
-listens_on w FrontMoves c h k l = front_turns w c h (front_turn w) k l refl
-listens_on w BackMoves c h k l = back_turns w c h (back_turn w) k l refl
+listens_on w FrontMoves c h k l =
+    after_front_move (λ act u. ListensIn (front_heard_by w act h) u) w k.fit l (λ a e. let after = goes w c h a k l e in record { bus = after.bus; leaves = after.leaves })
+listens_on w BackMoves c h k l = after_back_move (λ act u. ListensIn h u) w k.fit l (λ a e. l)
 listens_on w (JobMoves number outcome) c h k l = job_turns w h number (ring.job_turn w.rings number outcome) l
 listens_on w (Closes end.Front) c h k l = close_turns w.front w.rings.front h l
 listens_on w (Closes end.Back) c h k l = l

@@ -1,6 +1,6 @@
 -- The front waits in three cases alone, told from what its negotiation asks.
-use Rattle.std.proofs.Common.{◌⊎◌, inl, inr, ◌≡◌, ◌∙◌, ap, sym, subst, refl, ℕ, ◌+◌, ◌&&◌, ◌||◌, Bool, true, false, true≢false, if◌then◌else◌, List, [], ◌∷◌, length, arith}
-use Rattle.std.specs.Prelude.{◌-◌, Option, Some, None, ◌==◌, slice_get}
+use Rattle.std.proofs.Common.{◌⊎◌, inl, inr, ◌≡◌, ◌∙◌, ap, sym, subst, refl, ℕ, ◌&&◌, ◌||◌, Bool, true, false, true≢false, if◌then◌else◌, length, arith}
+use Rattle.std.specs.Prelude.{Option, Some, None, ◌==◌}
 use Rattle.std.proofs.lemmas.Bool.Decides.{nat_tests}
 use Rattle.line_text.proofs.Both.{both_true}
 use Rattle.blk_base.specs.declared.ask.FrontAsk.{FrontAsk}
@@ -13,7 +13,7 @@ use Rattle.blk_front.specs.Ask as front_ring
 use Rattle.ring_words.specs.Ring.{responses_of}
 use Rattle.blk_front.specs.State.{is_made, is_bare}
 use Rattle.blk_front.specs.Suspend.{is_left}
-use Rattle.blk_front.specs.Submit.{is_ready, is_wait, is_connected, ending_of}
+use Rattle.blk_front.specs.Submit.{is_ready, is_wait}
 use Rattle.xenbus_state.specs.declared.state.BusState.{BusState}
 use Rattle.xenbus_state.specs.declared.state.BusState.TheVariants as state
 use Rattle.xenbus_state.specs.declared.stage.FrontBusStage.{FrontBusStage}
@@ -29,8 +29,10 @@ use Rattle.vbd_laws.specs.Waits.{Check, Asleep, is_unserved, FrontIsOver}
 use Rattle.vbd_laws.proofs.FitFrontBus.{due_cases, closing_cases, unoccupied}
 use Rattle.vbd_laws.proofs.MovesTurns.{front_asks}
 use Rattle.vbd_laws.proofs.FitFrontMoves.{none_left, left_moves}
-use Rattle.vbd_laws.proofs.WaitsFrontRing.{sleeps, StandsAt, left_asks}
+use Rattle.vbd_laws.proofs.WaitsFrontRing.{StandsAt, left_asks}
+use Rattle.vbd_laws.proofs.WaitsChecks.{sleeps, asleep_is, differs}
 use Rattle.vbd_laws.proofs.WaitsFront.{Knows, asks_on, bus_asks_on, BusWaits, bus_waits, loop_waits, ready_waits}
+use Rattle.vbd_laws.proofs.WaitsFrontStages.{broken_unleft, loops_ready, none_next, ready_moves, unlike, ending_idle}
 
 -- its negotiation asks for nothing, and what else then is
 abbrev pub bus_asks : World → FrontBusAsk
@@ -48,60 +50,6 @@ pub record Sleeps (w : World) (c : Check) : Type 0 where
 
 abbrev pub MayWait : World → Check → Type 0
 MayWait w c = ((is_unserved w.front.state ≡ true) × Rests w) ⊎ Sleeps w c ⊎ FrontIsOver w
-
-asleep_is : (c : Check) → sleeps c ≡ true → c ≡ Asleep
-asleep_is Asleep is = refl
-asleep_is c is = absurd (true≢false (sym is))
-
--- a stage that isn't broken
-unlike : {A : Type 0} (r s : FrontStage) → r ≡ s → front_view.is_broken s ≡ false → front_view.is_broken r ≡ true → A
-unlike r s same whole is = absurd (true≢false (sym is ∙ (ap front_view.is_broken same ∙ whole)))
-
-abbrev is_closed : BusState → Bool
-is_closed state.Closed = true
-is_closed s = false
-
-differs : {A : Type 0} (b c : BusState) → b ≡ state.Closed → b ≡ c → is_closed c ≡ false → A
-differs b c own is other = absurd (true≢false (sym (ap is_closed own) ∙ (ap is_closed is ∙ other)))
-
-none_next : (f : ends.View) → (length f.requests == 0) ≡ true → ends.next_request f ≡ None
-none_next f none = by_waiting (f.waiting == 0) f.requests none
-  where
-    by_waiting : (b : Bool) (requests : List Request) → (length requests == 0) ≡ true → (if b then None else slice_get requests (length requests - f.waiting)) ≡ None
-    by_waiting true requests none = refl
-    by_waiting false [] none = refl
-    by_waiting false (r ∷ requests) none = absurd (grind (arith, nat_tests))
-
-loops_ready : (s : FrontStage) → is_ready s ≡ true → front_view.is_still s ≡ true → s ≡ ring_stage.Loop
-loops_ready ring_stage.Loop ready still = refl
-loops_ready (ring_stage.RingWord k) ready still = absurd (true≢false (sym ready))
-loops_ready ring_stage.Initialised ready still = absurd (true≢false (sym ready))
-loops_ready (ring_stage.RingRead page) ready still = absurd (true≢false (sym ready))
-loops_ready (ring_stage.RingEnd page seen) ready still = absurd (true≢false (sym ready))
-loops_ready ring_stage.ClosePort ready still = absurd (true≢false (sym ready))
-loops_ready (ring_stage.KeptRead frame) ready still = absurd (true≢false (sym ready))
-loops_ready (ring_stage.KeptEnd frame seen) ready still = absurd (true≢false (sym ready))
-loops_ready ring_stage.Left ready still = absurd (true≢false (sym ready))
-loops_ready ring_stage.Closed ready still = absurd (true≢false (sym ready))
-loops_ready s ready still = absurd (true≢false (sym still))
-
-ready_connected : (s : FrontStage) → is_ready s ≡ true → is_connected s ≡ true
-ready_connected (ring_stage.RingWord n) is = absurd (true≢false (sym is))
-ready_connected (ring_stage.RingFrame n) is = absurd (true≢false (sym is))
-ready_connected (ring_stage.RingFence n) is = absurd (true≢false (sym is))
-ready_connected (ring_stage.RingFlags n) is = absurd (true≢false (sym is))
-ready_connected ring_stage.NewPort is = absurd (true≢false (sym is))
-ready_connected (ring_stage.LeftData n) is = absurd (true≢false (sym is))
-ready_connected s is = refl
-
--- and has the move where its negotiation rests
-ready_moves : (s : FrontStage) → is_ready s ≡ true → front.ring_moves bus_ask.Wait s ≡ true
-ready_moves (ring_stage.LeftData n) is = absurd (true≢false (sym is))
-ready_moves s is = ready_connected s is
-
-broken_unleft : (s : FrontStage) → front_view.is_broken s ≡ true → is_left s ≡ false
-broken_unleft (ring_stage.LeftData n) is = absurd (true≢false (sym is))
-broken_unleft s is = refl
 
 module _ (w : World) (c : Check) (k : Knows w c) where
   abbrev v : front_view.View
@@ -355,17 +303,12 @@ module _ (w : World) (c : Check) (k : Knows w c) where
               through : front_ring.is_through w.rings.front ≡ true
               through = k.fit.through own whole
 
-              free : (s : FrontStage) → IsEndingPage 0 s → (length w.rings.front.requests + ending_of s == 0 && front_view.is_still s) ≡ true
-              free (ring_stage.RingRead page) ends = let zero = (both_true w.rings.front.closing (length w.rings.front.requests == 0) through).1 in let none : length w.rings.front.requests ≡ 0 = grind (arith, nat_tests) in rw none refl
-              free (ring_stage.RingEnd page seen) ends = let zero = (both_true w.rings.front.closing (length w.rings.front.requests == 0) through).1 in let none : length w.rings.front.requests ≡ 0 = grind (arith, nat_tests) in rw none refl
-              free s ends = absurd ends
-
               by_gone : (gone : Bool) (port : Option ℕ) → w.front.gone ≡ gone → FrontRests state.Closing gone port r → w.front.gone ≡ false
               by_gone false port g rests = g
               by_gone true None g rests = absurd rests
               by_gone true (Some p) g rests =
                   let closes : w.front.closing ≡ true = sym (k.fit.closing whole) ∙ (both_true w.rings.front.closing (length w.rings.front.requests == 0) through).0 in
-                  let unoccupied_is : idle ≡ true = free r rests in
+                  let unoccupied_is : idle ≡ true = ending_idle w.rings.front r refl rests through in
                   absurd (true≢false (sym (rw (closes, unoccupied_is) refl) ∙ still))
       at_rest whole rests is (inr (inl here)) = let goes : FrontGoesWith stage.Closed w.front r = subst (λ (s : FrontBusStage). FrontGoesWith s w.front r) here k.fit.front in absurd (true≢false (sym is ∙ ap is_unserved goes.0))
       at_rest whole rests is (inr (inr at)) = let goes : FrontGoesWith (stage.Broken at.0) w.front r = subst (λ (s : FrontBusStage). FrontGoesWith s w.front r) at.1 k.fit.front in absurd (true≢false (sym goes ∙ whole))

@@ -10,7 +10,6 @@ use Rattle.blk_base.specs.declared.ask.FrontAnswer.TheVariants as answer
 use Rattle.blk_front.specs.declared.stage.FrontStage.{FrontStage}
 use Rattle.xenbus_state.specs.declared.keys.BackKey.{BackKey}
 use Rattle.xenbus_state.specs.declared.keys.BackKey.TheVariants as back_key
-use Rattle.xenbus_state.specs.declared.keys.FrontKey.{FrontKey}
 use Rattle.xenbus_state.specs.declared.state.BusState.{BusState}
 use Rattle.xenbus_state.specs.declared.state.BusState.TheVariants as state
 use Rattle.xenbus_state.specs.declared.stage.FrontBusStage.{FrontBusStage}
@@ -23,13 +22,13 @@ use Rattle.xenbus_state.specs.Programs.{next_feature, next_fact, next_published}
 use Rattle.xenbus_state.specs.Reading.{count_read, fact_read}
 use Rattle.xenbus_state.specs.Tables.{front_action, on_offer, on_connected, on_closing, on_gone}
 use Rattle.xenbus_state.specs.FrontView.{FrontView, ring_order}
-use Rattle.xenbus_state.specs.FrontAsk.{leaving, closing_stage, due, ask_at, IsAnswer}
+use Rattle.xenbus_state.specs.FrontAsk.{due, ask_at, IsAnswer}
 use Rattle.xenbus_state.specs.FrontStep.{at, acted, feature_step, fact_step, after_feature, after_fact, after_published, after_grants, step_at, step_of}
 use Rattle.vbd_front.specs.Ask as front
 use Rattle.vbd_front.specs.Step.{settled_at, settled}
 use Rattle.vbd_model.specs.Fit.{FrontGoesWith}
 use Rattle.vbd_laws.specs.Waits.{Heard, Unwatched, Watching, Fired, Read, front_hears}
-use Rattle.vbd_laws.proofs.FitFrontBus.{due_cases}
+use Rattle.vbd_laws.proofs.FitFrontBus.{due_ways}
 
 -- two states that differ
 apart : {A : Type 0} (a b : BusState) → (state_number a == state_number b) ≡ false → a ≡ b → A
@@ -137,23 +136,11 @@ module _ (free : Type 0) where
 
   feature_hears : (key : BackKey) (n : Option ℕ) (v : FrontView) (h : Heard) → Publishes v.gone h → Hears (feature_step key n v) h
   feature_hears key None v h is = tt
-  feature_hears key (Some n) v h is = by_next (next_feature key)
-    where
-      by_next : (next : Option BackKey) → HearsAt (after_feature next) v.state v.closing v.gone h
-      by_next (Some k) = is
-      by_next None = is
+  feature_hears key (Some n) v h is = elim (next_feature key) as (λ next. HearsAt (after_feature next) v.state v.closing v.gone h) [ None ↦ is | Some k ↦ is ]
 
   fact_hears : (key : BackKey) (n : Option ℕ) (v : FrontView) (h : Heard) → Connects v.closing v.gone h → Hears (fact_step key n v) h
   fact_hears key None v h is = tt
-  fact_hears key (Some n) v h is = by_next (next_fact key)
-    where
-      by_next : (next : Option BackKey) → HearsAt (after_fact next) v.state v.closing v.gone h
-      by_next (Some k) = is
-      by_next None = is
-
-  published_hears : (next : Option FrontKey) (own : BusState) (closing gone : Bool) (h : Heard) → Publishes gone h → HearsAt (after_published next) own closing gone h
-  published_hears (Some k) own closing gone h is = is
-  published_hears None own closing gone h is = is
+  fact_hears key (Some n) v h is = elim (next_fact key) as (λ next. HearsAt (after_fact next) v.state v.closing v.gone h) [ None ↦ is | Some k ↦ is ]
 
   -- its negotiation speaks at a stage that it has begun
   pub says_at : (s : FrontBusStage) (v : FrontView) (idle : Bool) (r : FrontStage) (h : Heard) (a : FrontAnswer) → (idle ≡ true → free) → FrontGoesWith s v r → HearsAt s v.state v.closing v.gone h → front.speaks (ask_at s v) ≡ true → IsAnswer (ask_at s v) a
@@ -162,7 +149,7 @@ module _ (free : Type 0) where
   says_at stage.ReadState v idle r h (answer.Key text) may goes is says allowed = acted_hears (at stage.ReadState v) idle (state_read text) is.1 may
   says_at (stage.ReadFeature key) v idle r h (answer.Key text) may goes is says allowed =
       subst (λ (x : Heard). Hears (feature_step key (count_read text) (at (stage.ReadFeature key) v)) x) (sym (key_heard key text h)) (feature_hears key (count_read text) (at (stage.ReadFeature key) v) h is)
-  says_at (stage.Publish key) v idle r h answer.Done may goes is says allowed = published_hears (next_published (ring_order v) key) v.state v.closing v.gone h is
+  says_at (stage.Publish key) v idle r h answer.Done may goes is says allowed = elim (next_published (ring_order v) key) as (λ next. HearsAt (after_published next) v.state v.closing v.gone h) [ None ↦ is | Some k ↦ is ]
   says_at (stage.ReadFact key) v idle r h (answer.Key text) may goes is says allowed =
       subst (λ (x : Heard). Hears (fact_step key (fact_read key text) (at (stage.ReadFact key) v)) x) (sym (key_heard key text h)) (fact_hears key (fact_read key text) (at (stage.ReadFact key) v) h is)
   says_at (stage.WriteState state.Initialised) v idle r h answer.Done may goes is says allowed =
@@ -223,30 +210,17 @@ module _ (free : Type 0) where
   hears_closed (stage.WriteState state.Connected) own closing gone h is = connects_closed closing gone h is
   hears_closed s own closing gone h is = is
 
-  -- a front without other grants goes on
-  after_hears : (port : Option ℕ) (own : BusState) (closing gone : Bool) (h : Heard) → IsGone h → HearsAt (after_grants port) own closing gone h
-  after_hears None own closing gone h is = is
-  after_hears (Some p) own closing gone h is = is
-
   pub settled_hears : (idle : Bool) (u : FrontView) (h : Heard) → Hears u h → Hears (settled idle u) h
   settled_hears idle u h is =
-      due_cases (λ (d : FrontBusStage). due u idle ≡ d → Hears (settled_at (ask_at d u) idle u) h) u idle (λ e. begun u.stage e is) (λ here closing is_idle. by_state u.state here) refl
+      due_ways (λ (d : FrontBusStage). due u idle ≡ d → Hears (settled_at (ask_at d u) idle u) h) u idle (λ e. begun u.stage e is) (λ here closing e. is) (λ here gone e. is)
+      (λ here gone e. ends e (dealt_gone u.state u.closing u.gone h (subst (λ (s : FrontBusStage). HearsAt s u.state u.closing u.gone h) here is) gone)) refl
     where
       ends : due u idle ≡ stage.EndOtherGrants → IsGone h → Hears (step_of u idle answer.Done) h
-      ends e gone = subst (λ (d : FrontBusStage). Hears (step_at d (at d u) idle answer.Done) h) (sym e) (after_hears u.port u.state u.closing u.gone h gone)
+      ends e gone = subst (λ (d : FrontBusStage). Hears (step_at d (at d u) idle answer.Done) h) (sym e) (elim u.port as (λ port. HearsAt (after_grants port) u.state u.closing u.gone h) [ None ↦ gone | Some p ↦ gone ])
 
       begun : (s : FrontBusStage) → due u idle ≡ s → HearsAt s u.state u.closing u.gone h → Hears (settled_at (ask_at s u) idle u) h
       begun stage.EndOtherGrants e gone = ends e gone
       begun s e there = is
-
-      by_state : (own : BusState) → u.stage ≡ stage.Rest → due u idle ≡ closing_stage own u → Hears (settled_at (ask_at (closing_stage own u) u) idle u) h
-      by_state state.Closing here e = by_port u.gone u.port refl e
-        where
-          by_port : (gone : Bool) (port : Option ℕ) → u.gone ≡ gone → due u idle ≡ leaving gone port → Hears (settled_at (ask_at (leaving gone port) u) idle u) h
-          by_port false port g e = is
-          by_port true (Some p) g e = is
-          by_port true None g e = ends e (dealt_gone u.state u.closing u.gone h (subst (λ (s : FrontBusStage). HearsAt s u.state u.closing u.gone h) here is) g)
-      by_state own here e = is
 
 -- what was left no more isn't left
 dealt_as : (P Q : Type 0) (own : BusState) (closing gone : Bool) (h : Heard) → (closing ≡ true → P → Q) → IsDealt P own closing gone h → IsDealt Q own closing gone h

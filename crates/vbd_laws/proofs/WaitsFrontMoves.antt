@@ -1,5 +1,5 @@
 -- A move of the front goes with what it heard of the back's state.
-use Rattle.std.proofs.Common.{inl, inr, ◌≡◌, ◌∙◌, ap, sym, subst, refl, ℕ, ◌+◌, ◌&&◌, Bool, true, false, true≢false, if◌then◌else◌, List, [], ◌++◌, length, arith}
+use Rattle.std.proofs.Common.{inl, inr, ◌≡◌, ◌∙◌, ap, sym, subst, refl, ℕ, ◌&&◌, Bool, true, false, true≢false, if◌then◌else◌, List, [], ◌++◌, length, arith}
 use Rattle.std.specs.Prelude.{Option, Some, None, ◌==◌}
 use Rattle.std.proofs.lemmas.Bool.Decides.{nat_tests}
 use Rattle.line_text.proofs.Both.{both_true}
@@ -16,7 +16,7 @@ use Rattle.blk_front.specs.Step as ring_step
 use Rattle.blk_front.specs.declared.state.FrontState.{FrontState}
 use Rattle.blk_front.specs.State.{may_enter}
 use Rattle.blk_front.specs.Suspend.{is_left}
-use Rattle.blk_front.specs.Submit.{is_wait, ending_of, unfinished}
+use Rattle.blk_front.specs.Submit.{unfinished}
 use Rattle.xenbus_state.specs.declared.state.BusState.{BusState}
 use Rattle.xenbus_state.specs.declared.state.BusState.TheVariants as state
 use Rattle.xenbus_state.specs.declared.stage.FrontBusStage.{FrontBusStage}
@@ -40,9 +40,9 @@ use Rattle.vbd_front.specs.Step as front_step
 use Rattle.vbd_front.specs.Step.{settled_at, settled}
 use Rattle.vbd_laws.proofs.FitFrontSpoken.{LeavesIdle, action_leaves}
 use Rattle.vbd_model.specs.World.{World, frontend_of}
-use Rattle.vbd_model.specs.Fit.{IsEndingPage, FrontRests, FrontGoesWith}
+use Rattle.vbd_model.specs.Fit.{FrontRests, FrontGoesWith}
 use Rattle.vbd_laws.specs.Waits.{Check, Heard, front_hears}
-use Rattle.vbd_laws.proofs.FitFrontBus.{due_cases, rests_due}
+use Rattle.vbd_laws.proofs.FitFrontBus.{due_ways, rests_due}
 use Rattle.vbd_laws.proofs.FitFrontRing.{broken_step, unfinished_step}
 use Rattle.vbd_laws.proofs.FitFrontMoves.{left_starts}
 use Rattle.vbd_laws.proofs.FitFront.{all_fewer}
@@ -51,6 +51,8 @@ use Rattle.vbd_laws.proofs.WaitsFrontRing.{left_asks}
 use Rattle.vbd_laws.proofs.WaitsFrontCases.{bus_asks, rests_whole, only_rests, broken_waits}
 use Rattle.vbd_laws.proofs.WaitsFrontHeard.{HearsAt, Hears, settled_hears, hears_as}
 use Rattle.vbd_laws.proofs.WaitsFrontTold.{told_hears, follows_hears, heard_waiting, woken_hears, IsKept, settled_kept, follows_kept, woken_kept}
+use Rattle.vbd_laws.proofs.MovesTurns.{front_key_asks}
+use Rattle.vbd_laws.proofs.WaitsFrontStages.{ending_idle}
 
 abbrev pub IsWhole : World → Type 0
 IsWhole w = front_view.is_broken w.rings.front.stage ≡ false
@@ -78,54 +80,23 @@ pub record Listens (v : FrontView) (f : ends.View) (h : Heard) : Type 0 where
   pub bus : front_view.is_broken f.stage ≡ false → Hears (IsFree f) v h
   pub leaves : front_view.is_broken f.stage ≡ false → LeavesNext v f
 
-key_asks : (b : FrontBusAsk) → front.speaks b ≡ true → is_wait (front.key_ask b) ≡ false
-key_asks bus_ask.Watch says = refl
-key_asks bus_ask.GetState says = refl
-key_asks (bus_ask.GetKey key) says = refl
-key_asks (bus_ask.SetState s) says = refl
-key_asks (bus_ask.SetKey key value) says = refl
-key_asks b says = absurd (true≢false (sym says))
-
 -- an ask for no key hears a watch alone
-ring_heard : (a : FrontAsk) (x : FrontAnswer) (h : Heard) → AsksNoKey a → front_ring.IsAnswer a x → front_hears a x h ≡ heard_waiting x h
-ring_heard front_ask.Wait answer.Event h none allowed = refl
-ring_heard front_ask.Wait (answer.Watched path) h none allowed = refl
-ring_heard front_ask.Fence answer.Done h none allowed = refl
-ring_heard (front_ask.Read frame word) (answer.Word value) h none allowed = refl
-ring_heard (front_ask.Write frame word value) answer.Done h none allowed = refl
-ring_heard (front_ask.Cas frame word old new) (answer.Word seen) h none allowed = refl
-ring_heard front_ask.NewPort (answer.Port port) h none allowed = refl
-ring_heard front_ask.Send answer.Done h none allowed = refl
-ring_heard front_ask.ClosePort answer.Done h none allowed = refl
-ring_heard a x h none allowed = absurd allowed
-
 wait_heard : (x : FrontAnswer) (h : Heard) → front_hears front_ask.Wait x h ≡ heard_waiting x h
 wait_heard (answer.Watched path) h = refl
 wait_heard other h = refl
 
+ring_heard : (a : FrontAsk) (x : FrontAnswer) (h : Heard) → AsksNoKey a → front_ring.IsAnswer a x → front_hears a x h ≡ heard_waiting x h
+ring_heard front_ask.Wait x h none allowed = wait_heard x h
+ring_heard a (answer.Watched path) h none allowed = absurd allowed
+ring_heard (front_ask.Watch path) x h none allowed = absurd none
+ring_heard (front_ask.GetKey path) x h none allowed = absurd none
+ring_heard a x h none allowed = refl
+
 -- where it isn't a wait no watch is taken
 unwatched : (a : FrontAsk) (x : FrontAnswer) (h : Heard) → (a ≡ front_ask.Wait → ⊥) → front_ring.IsAnswer a x → heard_waiting x h ≡ h
 unwatched front_ask.Wait x h on allowed = absurd (on refl)
-unwatched front_ask.Fence answer.Done h on allowed = refl
-unwatched (front_ask.Read frame word) (answer.Word value) h on allowed = refl
-unwatched (front_ask.Write frame word value) answer.Done h on allowed = refl
-unwatched (front_ask.Cas frame word old new) (answer.Word seen) h on allowed = refl
-unwatched front_ask.NewPort (answer.Port port) h on allowed = refl
-unwatched front_ask.Send answer.Done h on allowed = refl
-unwatched front_ask.ClosePort answer.Done h on allowed = refl
-unwatched a x h on allowed = absurd allowed
-
--- once its grants are being ended nothing of a request is left
-ending_idle : (f : ends.View) (s : FrontStage) → f.stage ≡ s → IsEndingPage 0 s → front_ring.is_through f ≡ true → front_view.is_unoccupied f ≡ true
-ending_idle f s here ends through = rw here (by_stage s ends)
-  where
-    none : length f.requests ≡ 0
-    none = let zero = (both_true f.closing (length f.requests == 0) through).1 in grind (arith, nat_tests)
-
-    by_stage : (s : FrontStage) → IsEndingPage 0 s → (length f.requests + ending_of s == 0 && front_view.is_still s) ≡ true
-    by_stage (ring_stage.RingRead page) ends = rw none refl
-    by_stage (ring_stage.RingEnd page seen) ends = rw none refl
-    by_stage s ends = absurd ends
+unwatched a (answer.Watched path) h on allowed = absurd allowed
+unwatched a x h on allowed = refl
 
 module _ (w : World) (c : Check) (h : Heard) (k : Knows w c) (l : Listens w.front w.rings.front h) where
   abbrev idle : Bool
@@ -216,13 +187,9 @@ module _ (w : World) (c : Check) (h : Heard) (k : Knows w c) (l : Listens w.fron
       same : settled idle u ≡ u
       same = ap (λ (b : FrontBusAsk). settled_at b idle u) asks
 
-      entered : (may : Bool) → front_view.is_unoccupied (if may then record w.rings.front { closing = true } else w.rings.front) ≡ true
-      entered true = free
-      entered false = free
-
       by_was : (was : Bool) → front_view.is_unoccupied (front_step.all_entered (front_step.states_of_news (front_step.offers_of u) (closing_news was) ++ []) w.rings.front) ≡ true
       by_was true = free
-      by_was false = entered (may_enter enter.Closing w.rings.front)
+      by_was false = elim (may_enter enter.Closing w.rings.front) as (λ may. front_view.is_unoccupied (if may then record w.rings.front { closing = true } else w.rings.front) ≡ true) [ true ↦ free | false ↦ free ]
 
   acted_ends : (act : FrontAction) → LeavesIdle idle act → w.front.gone ≡ false
       → let u = acted act (at stage.ReadState w.front) in u.gone ≡ true → is_early u.state ≡ true → ((settled idle u).closing && front_view.is_unoccupied (f_after u (action_news act w.front.closing))) ≡ true
@@ -256,21 +223,16 @@ module _ (w : World) (c : Check) (h : Heard) (k : Knows w c) (l : Listens w.fron
   begun_ends (stage.WriteState s) x is goes says allowed gone early = absurd allowed
   begun_ends s x is goes says allowed gone early = absurd (true≢false (sym says))
 
-  closing_ends : (own : BusState) (x : FrontAnswer) → Ends x (bus.closing_stage own w.front)
-  closing_ends state.Closing x = by_port w.front.gone w.front.port
-    where
-      by_port : (gone : Bool) (port : Option ℕ) → Ends x (bus.leaving gone port)
-      by_port false port says allowed gone early = absurd (true≢false (sym says))
-      by_port true None says allowed gone early = absurd (true≢false (sym says))
-      by_port true (Some p) says allowed gone early = absurd (true≢false (sym says))
-  closing_ends own answer.Done = λ says allowed gone early. absurd (true≢false (sym early))
-  closing_ends own x = λ says allowed gone early. absurd allowed
+  writes_ends : (x : FrontAnswer) → Ends x (stage.WriteState state.Closing)
+  writes_ends answer.Done = λ says allowed gone early. absurd (true≢false (sym early))
+  writes_ends x = λ says allowed gone early. absurd allowed
 
   spoken_leaves : IsWhole w → (x : FrontAnswer) → front.speaks (bus_asks w) ≡ true → bus.IsAnswer (bus_asks w) x → LeavesNext (front_step.bus_after (frontend_of w) x) (front_step.all_entered (front_step.states_after (frontend_of w) x) w.rings.front)
   spoken_leaves whole x says allowed gone early =
       let u = step_of w.front idle x in
       let kept = settled_kept idle u in
-      due_cases (Ends x) w.front idle (begun_ends w.front.stage x (l.bus whole) k.fit.front) (λ here closing is_idle. closing_ends w.front.state x) says allowed (sym kept.0 ∙ gone) (ap is_early (sym kept.1) ∙ early)
+      due_ways (Ends x) w.front idle (begun_ends w.front.stage x (l.bus whole) k.fit.front) (λ here closing. writes_ends x)
+      (λ here left says. absurd (true≢false (sym says))) (λ here left says. absurd (true≢false (sym says))) says allowed (sym kept.0 ∙ gone) (ap is_early (sym kept.1) ∙ early)
 
   -- one that speaks isn't broken
   says_whole : front.speaks (bus_asks w) ≡ true → IsWhole w
@@ -279,7 +241,7 @@ module _ (w : World) (c : Check) (h : Heard) (k : Knows w c) (l : Listens w.fron
       by_broken : (b : Bool) → front_view.is_broken w.rings.front.stage ≡ b → front_view.is_broken w.rings.front.stage ≡ false
       by_broken false is = is
       by_broken true is =
-          asks_on (front.key_ask (bus_asks w)) (key_asks (bus_asks w) says)
+          asks_on (front.key_ask (bus_asks w)) (front_key_asks (bus_asks w) says)
           (sym (ap (λ (t : Bool). if t then front.key_ask (bus_asks w) else front.ring_ask (front.ring_moves (bus_asks w) w.rings.front.stage) (frontend_of w)) says) ∙ broken_waits w c k is)
 
   pub says_goes : (x : FrontAnswer) → front.speaks (bus_asks w) ≡ true → bus.IsAnswer (bus_asks w) x

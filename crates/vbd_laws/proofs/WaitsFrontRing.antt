@@ -1,19 +1,15 @@
 -- The front's end of the ring sleeps exactly where its last look found nothing, and has what it does its next move with.
-use Rattle.std.proofs.Common.{◌≡◌, ◌∙◌, ap, sym, subst, refl, ℕ, ◌+◌, ◌-◌, ◌*◌, ◌/◌, ◌%◌, ◌^◌, ◌<◌, ◌&&◌, ◌||◌, not, Bool, true, false, true≢false, if◌then◌else◌, List, [], ◌∷◌, ◌++◌, length, length-append, arith}
-use Rattle.std.specs.Prelude.{Option, Some, None, IsSome, Result, Ok, Err, nat_lt, nat_le, slice_get, slice_set, ◌==◌}
-use Rattle.std.proofs.lemmas.Option.{slice_get_within}
+use Rattle.std.proofs.Common.{◌≡◌, ◌∙◌, ap, sym, subst, refl, ℕ, ◌+◌, ◌*◌, ◌/◌, ◌%◌, ◌^◌, ◌||◌, Bool, true, false, true≢false, if◌then◌else◌, List, [], ◌∷◌, length}
+use Rattle.std.specs.Prelude.{Option, Some, None, IsSome, Result, Ok, Err, nat_lt, slice_set, ◌==◌}
 use Rattle.std.proofs.lemmas.Bool.{or_parts}
-use Rattle.std.proofs.lemmas.Bool.Decides.{nat_tests}
-use Rattle.machine_pipeline.proofs.Lists.{get_within}
 use Rattle.blk_base.specs.Distance.{distance_of}
-use Rattle.blk_base.specs.declared.config.Submission.{Submission}
 use Rattle.blk_base.specs.declared.operation.Status.{Status}
 use Rattle.blk_base.specs.declared.ask.FrontAsk.{FrontAsk}
 use Rattle.blk_base.specs.declared.ask.FrontAsk.TheVariants as ask
 use Rattle.blk_base.specs.declared.ask.FrontAnswer.{FrontAnswer}
 use Rattle.blk_base.specs.declared.ask.FrontAnswer.TheVariants as answer
 use Rattle.ring_words.specs.Ring.{responses_of, notifies}
-use Rattle.ring_words.specs.Shape.{entry_words_of, entries_of}
+use Rattle.ring_words.specs.Shape.{entry_words_of}
 use Rattle.blk_layout.specs.declared.response.Response.{Response}
 use Rattle.blk_layout.specs.Response.{response_of}
 use Rattle.blk_front.specs.declared.stage.FrontStage.{FrontStage}
@@ -22,75 +18,16 @@ use Rattle.blk_front.specs.declared.stage.Ending.{Ending}
 use Rattle.blk_front.specs.declared.request.Request.{Request}
 use Rattle.blk_front.specs.declared.request.Transfer.{Transfer}
 use Rattle.blk_front.specs.declared.request.Transfer.TheVariants as transfer
-use Rattle.blk_front.specs.declared.request.Wish.{Wish}
-use Rattle.blk_front.specs.declared.state.FrontState.{FrontState}
-use Rattle.blk_front.specs.declared.state.FrontState.TheVariants as enter
+use Rattle.blk_front.specs.declared.told.Told.{Told}
 use Rattle.blk_front.specs.declared.told.Told.TheVariants as told
-use Rattle.blk_base.specs.declared.refusal.Refusal.{Refusal}
-use Rattle.blk_front.specs.Pool.{taking}
-use Rattle.blk_front.specs.Request.{is_write, named_of, has_data, words_in, frames_for, is_indirect, naming_words}
+use Rattle.blk_front.specs.Request.{has_data, words_in, is_indirect, naming_words}
 use Rattle.blk_front.specs.View.{View, ring_frame, slot_frame, slot_word, next_request}
 use Rattle.blk_front.specs.Ask.{data_ask, page_ask, name_ask, grant_ask, revoke_ask, end_ask, read_ask, issue_ask, loop_ask, is_through, ask_at, IsAnswer}
-use Rattle.blk_front.specs.Step.{at, broken, looked, begun, after_data, data_stage, page_stage, granted, loop_word, loop_step, issued, taken, response_at, is_mapped, ended, revoked, finished, data_step, left_step, ring_left, step_at, step_of}
-use Rattle.blk_front.specs.State.{is_unmade, may_enter, in_state, enters}
+use Rattle.blk_front.specs.Step.{at, broken, looked, begun, after_data, data_stage, page_stage, granted, loop_word, loop_step, issued, taken, response_at, is_mapped, ended, revoked, finished, sector_told, data_step, left_step, ring_left, step_at, step_of}
 use Rattle.blk_front.specs.Suspend.{stage_after, is_left, resumed}
-use Rattle.blk_front.specs.Submit.{is_ready, is_initialised, is_wait, unfinished, wish_of, most_segments, frames_taken, request_with, accepted, submit_with, submit_one, submit_of}
-use Rattle.line_text.proofs.Both.{both_true}
-use Rattle.split_model.proofs.States.{enters_cases}
-use Rattle.vbd_laws.specs.Waits.{Check, Awake, Stored, Fenced, Asleep, fences, looks, others, writes, is_ring_word, front_checks}
-
-abbrev pub sleeps : Check → Bool
-sleeps Asleep = true
-sleeps c = false
-
-abbrev pub is_fenced : Check → Bool
-is_fenced Fenced = true
-is_fenced c = false
-
--- what each kind of ask leaves
-pub others_sleep : (c : Check) → sleeps (others c) ≡ sleeps c
-others_sleep Asleep = refl
-others_sleep c = refl
-
-pub others_unfenced : (c : Check) → is_fenced (others c) ≡ false
-others_unfenced Asleep = refl
-others_unfenced c = refl
-
-pub fences_sleep : (c : Check) → sleeps (fences c) ≡ sleeps c
-fences_sleep Stored = refl
-fences_sleep c = refl
-
-pub writes_sleep : (event : Bool) (c : Check) → sleeps (writes event c) ≡ sleeps c
-writes_sleep true Asleep = refl
-writes_sleep true c = refl
-writes_sleep false c = others_sleep c
-
-pub stored_awake : (c : Check) → sleeps c ≡ false → writes true c ≡ Stored
-stored_awake Asleep is = absurd (true≢false is)
-stored_awake c is = refl
-
-pub looks_awake : (c : Check) (same : Bool) → is_fenced c ≡ false → looks c same ≡ Awake
-looks_awake Fenced same is = absurd (true≢false is)
-looks_awake c same is = refl
-
--- an end that isn't asleep stays so at a read that isn't the last of its final check
-pub reads_awake : (producer same : Bool) (c : Check) → sleeps c ≡ false → is_fenced c ≡ false → sleeps (if producer then looks c same else others c) ≡ false
-reads_awake true same c awake unfenced = ap sleeps (looks_awake c same unfenced)
-reads_awake false same c awake unfenced = others_sleep c ∙ awake
-
-pub reads_unfenced : (producer same : Bool) (c : Check) → is_fenced c ≡ false → is_fenced (if producer then looks c same else others c) ≡ false
-reads_unfenced true same c unfenced = ap is_fenced (looks_awake c same unfenced)
-reads_unfenced false same c unfenced = others_unfenced c
-
--- its flag says what the check says; and it doesn't sleep, and is at no final check
-abbrev pub IsAwake : Check → Bool → Type 0
-IsAwake c asleep = (asleep ≡ false) × (sleeps c ≡ false)
-
-abbrev pub IsAlert : Check → Bool → Type 0
-IsAlert c asleep = (asleep ≡ false) × (sleeps c ≡ false) × (is_fenced c ≡ false)
-
-abbrev pub IsTold : Check → Bool → Type 0
-IsTold c asleep = sleeps c ≡ asleep
+use Rattle.blk_front.specs.Submit.{is_wait}
+use Rattle.vbd_laws.specs.Waits.{Check, Awake, Stored, Fenced, fences, looks, others, writes, is_ring_word, front_checks}
+use Rattle.vbd_laws.proofs.WaitsChecks.{IsAlert, IsAwake, IsTold, fences_sleep, is_fenced, looks_awake, others_sleep, others_unfenced, reads_awake, reads_unfenced, sleeps, stored_awake, writes_sleep}
 
 abbrev pub Sees : FrontStage → Check → (asleep : Bool) → Type 0
 Sees (stage.RingWord k) c asleep = IsAwake c asleep
@@ -251,26 +188,28 @@ end_goes v (Some e) place before (answer.Word word) c same some is allowed =
     (either (nat_lt (place + 1) (length e.request.frames.items)) (at (stage.GrantRead (place + 1)) v) (ended e v) d (alert, rw same refl) (ended_goes v e d same alert))) (tt, tt)
 end_goes v (Some e) place before x c same some is allowed = absurd allowed
 
+-- a word of its data was read: another one is read next, or this was the last
+word_goes : (v : View) (e : Ending) (n word : ℕ) (c : Check) (next last : View → View)
+    → ((words : List ℕ) (t : Option Told) → Stands (next (record v { words = words; told = t })) c × Stands (last (record v { words = words; told = t })) c)
+    → (let u : View = sector_told e n (slice_set v.words (n % 128) word) v in Stands (if nat_lt (n + 1) (words_in e.request) then next u else last u) c)
+word_goes v e n word c next last goes = by_sector (n % 128 == 127) (slice_set v.words (n % 128) word)
+  where
+    by_sector : (b : Bool) (words : List ℕ)
+        → (let u : View = if b then record v { words = words; told = Some (told.Sector e.request.number (n / 128) words) } else record v { words = words } in Stands (if nat_lt (n + 1) (words_in e.request) then next u else last u) c)
+    by_sector true words = let both = goes words (Some (told.Sector e.request.number (n / 128) words)) in either (nat_lt (n + 1) (words_in e.request)) _ _ c both.0 both.1
+    by_sector false words = let both = goes words v.told in either (nat_lt (n + 1) (words_in e.request)) _ _ c both.0 both.1
+
+-- it is none of the final check
+word_alert : (v : View) (e : Ending) (n word : ℕ) (c : Check) → IsAlert c v.ring.asleep → IsAlert (front_checks v.ring.indices.cons (read_ask (Some e) n) (answer.Word word) c) v.ring.asleep
+word_alert v e n word c is = (is.0, reads_awake _ _ c is.1 is.2, reads_unfenced _ _ c is.2)
+
 read_goes : (v : View) (e : Option Ending) (n : ℕ) (x : FrontAnswer) (c : Check) → v.ending ≡ e → IsSome e → IsAlert c v.ring.asleep → IsAnswer (read_ask e n) x
     → Goes v (step_at (stage.ReadData n) v x) (read_ask e n) x c
 read_goes v None n x c same some is allowed = absurd (true≢false (sym some))
 read_goes v (Some e) n (answer.Word word) c same some is allowed =
-    subst (λ (o : Option Ending). Stands (data_step o n word v) d) (sym same)
-    (either (nat_lt (n + 1) (words_in e.request)) _ _ d (more (n % 128 == 127) (slice_set v.words (n % 128) word)) (all (n % 128 == 127) (slice_set v.words (n % 128) word)))
-  where
-    d : Check
-    d = front_checks v.ring.indices.cons (read_ask (Some e) n) (answer.Word word) c
-
-    alert : IsAlert d v.ring.asleep
-    alert = (is.0, reads_awake _ _ c is.1 is.2, reads_unfenced _ _ c is.2)
-
-    more : (b : Bool) (words : List ℕ) → Stands (at (stage.ReadData (n + 1)) (if b then record v { words = words; told = Some (told.Sector e.request.number (n / 128) words) } else record v { words = words })) d
-    more true words = (alert, rw same refl)
-    more false words = (alert, rw same refl)
-
-    all : (b : Bool) (words : List ℕ) → Stands (finished e (if b then record v { words = words; told = Some (told.Sector e.request.number (n / 128) words) } else record v { words = words })) d
-    all true words = ((alert.1 ∙ sym alert.0, alert.2), tt)
-    all false words = ((alert.1 ∙ sym alert.0, alert.2), tt)
+    let alert = word_alert v e n word c is in
+    subst (λ (o : Option Ending). Stands (data_step o n word v) (front_checks v.ring.indices.cons (read_ask (Some e) n) (answer.Word word) c)) (sym same)
+    (word_goes v e n word _ (λ u. at (stage.ReadData (n + 1)) u) (finished e) (λ words t. ((alert, rw same refl), ((alert.1 ∙ sym alert.0, alert.2), tt))))
 read_goes v (Some e) n x c same some is allowed = absurd allowed
 
 -- data that are left after a suspend
@@ -278,22 +217,9 @@ left_goes : (v : View) (e : Option Ending) (n : ℕ) (x : FrontAnswer) (c : Chec
     → Goes v (step_at (stage.LeftData n) v x) (read_ask e n) x c
 left_goes v None n x c same some is allowed = absurd (true≢false (sym some))
 left_goes v (Some e) n (answer.Word word) c same some is allowed =
-    subst (λ (o : Option Ending). Stands (left_step o n word v) d) (sym same)
-    (either (nat_lt (n + 1) (words_in e.request)) _ _ d (more (n % 128 == 127) (slice_set v.words (n % 128) word)) (all (n % 128 == 127) (slice_set v.words (n % 128) word)))
-  where
-    d : Check
-    d = front_checks v.ring.indices.cons (read_ask (Some e) n) (answer.Word word) c
-
-    alert : IsAlert d v.ring.asleep
-    alert = (is.0, reads_awake _ _ c is.1 is.2, reads_unfenced _ _ c is.2)
-
-    more : (b : Bool) (words : List ℕ) → Stands (at (stage.LeftData (n + 1)) (if b then record v { words = words; told = Some (told.Sector e.request.number (n / 128) words) } else record v { words = words })) d
-    more true words = (alert, rw same refl)
-    more false words = (alert, rw same refl)
-
-    all : (b : Bool) (words : List ℕ) → Stands (at (stage.RingWord 0) (finished e (if b then record v { words = words; told = Some (told.Sector e.request.number (n / 128) words) } else record v { words = words }))) d
-    all true words = ((alert.0, alert.1), tt)
-    all false words = ((alert.0, alert.1), tt)
+    let alert = word_alert v e n word c is in
+    subst (λ (o : Option Ending). Stands (left_step o n word v) (front_checks v.ring.indices.cons (read_ask (Some e) n) (answer.Word word) c)) (sym same)
+    (word_goes v e n word _ (λ u. at (stage.LeftData (n + 1)) u) (λ u. at (stage.RingWord 0) (finished e u)) (λ words t. ((alert, rw same refl), ((alert.0, alert.1), tt))))
 left_goes v (Some e) n x c same some is allowed = absurd allowed
 
 -- it looks for the last time
@@ -370,96 +296,6 @@ stands_at s v x c here is allowed = absurd allowed
 pub stands_step : (v : View) (x : FrontAnswer) (c : Check) → Stands v c → IsAnswer (ask_at v.stage v) x → Stands (step_of v x) (front_checks v.ring.indices.cons (ask_at v.stage v) x c)
 stands_step v x c is allowed = stands_at v.stage v x c refl is allowed
 
--- a state that it enters
-agrees_at : (s : FrontStage) (v : View) (u : View) (c : Check) → is_unmade s ≡ true → u.ring.asleep ≡ v.ring.asleep → StandsAt s v c → StandsAt s u c
-agrees_at (stage.RingWord k) v u c may asleep is = let known = is.0 in ((asleep ∙ known.0, known.1), tt)
-agrees_at s v u c may asleep is = absurd (true≢false (sym may))
-
-connects_at : (s : FrontStage) (v : View) (c : Check) → is_initialised s ≡ true → StandsAt s v c → (IsTold c v.ring.asleep) × (is_fenced c ≡ false)
-connects_at stage.Initialised v c may is = let known = is.0 in (known.1 ∙ sym known.0, known.2)
-connects_at s v c may is = absurd (true≢false (sym may))
-
-closing_at : (s : FrontStage) (v : View) (c : Check) → StandsAt s v c → StandsAt s (record v { closing = true }) c
-closing_at (stage.Data n) v c is = is
-closing_at s v c is = is
-
-pub stands_enters : (s : FrontState) (v : View) (c : Check) → Stands v c → Stands (enters s v) c
-stands_enters s v c is = enters_cases (λ (x : View) shown. Stands x c) s v (by_state s) is
-  where
-    by_state : (s : FrontState) → may_enter s v ≡ true → Stands (in_state s v) c
-    by_state (enter.Agreed order) may = agrees_at v.stage v (in_state (enter.Agreed order) v) c (both_true (is_unmade v.stage) (nat_le order v.shape.order) (both_true _ _ may).0).0 refl is
-    by_state (enter.Connected offers) may = (connects_at v.stage v c may is, tt)
-    by_state enter.Closing may = closing_at v.stage v c is
-    by_state other may = (tt, tt)
-
--- a submission
-next_kept : (v : View) (wish : Wish) (frames : List ℕ × List Bool) → IsSome (next_request v) → IsSome (next_request (accepted v wish frames))
-next_kept v wish frames some = by_waiting v.waiting refl some
-  where
-    more : List Request
-    more = v.requests ++ request_with v wish frames.0 ∷ []
-
-    longer : length more ≡ length v.requests + 1
-    longer = length-append v.requests (request_with v wish frames.0 ∷ [])
-
-    found : (n : ℕ) → IsSome (slice_get v.requests (length v.requests - n)) → IsSome (slice_get more (length more - (n + 1)))
-    found n is = by_old (slice_get v.requests (length v.requests - n)) refl is
-      where
-        by_old : (o : Option Request) → slice_get v.requests (length v.requests - n) ≡ o → IsSome o → IsSome (slice_get more (length more - (n + 1)))
-        by_old None e is = absurd (true≢false (sym is))
-        by_old (Some r) e is =
-            let within : length v.requests - n < length v.requests = slice_get_within v.requests (length v.requests - n) r e in
-            let low : length more - (n + 1) < length more = omega (arith, longer) in
-            let there = get_within more (length more - (n + 1)) low in
-            rw there.1 refl
-
-    by_waiting : (n : ℕ) → v.waiting ≡ n → IsSome (if n == 0 then None else slice_get v.requests (length v.requests - n)) → IsSome (if n + 1 == 0 then None else slice_get more (length more - (n + 1)))
-    by_waiting n e is = by_zero (n == 0) (n + 1 == 0) refl (grind (arith, nat_tests)) is
-      where
-        by_zero : (none some : Bool) → (n == 0) ≡ none → some ≡ false → IsSome (if none then None else slice_get v.requests (length v.requests - n)) → IsSome (if some then None else slice_get more (length more - (n + 1)))
-        by_zero true some z nz is = absurd (true≢false (sym is))
-        by_zero false true z nz is = absurd (true≢false nz)
-        by_zero false false z nz is = found n is
-
-accepts_at : (s : FrontStage) (v : View) (wish : Wish) (frames : List ℕ × List Bool) (c : Check) → is_ready s ≡ true → StandsAt s v c → StandsAt s (accepted v wish frames) c
-accepts_at (stage.RingWord k) v wish frames c ready is = absurd (true≢false (sym ready))
-accepts_at (stage.RingFrame page) v wish frames c ready is = absurd (true≢false (sym ready))
-accepts_at (stage.RingFence page) v wish frames c ready is = absurd (true≢false (sym ready))
-accepts_at (stage.RingFlags page) v wish frames c ready is = absurd (true≢false (sym ready))
-accepts_at stage.NewPort v wish frames c ready is = absurd (true≢false (sym ready))
-accepts_at stage.Initialised v wish frames c ready is = absurd (true≢false (sym ready))
-accepts_at (stage.Data n) v wish frames c ready is = (is.0, next_kept v wish frames is.1)
-accepts_at (stage.Pages n) v wish frames c ready is = (is.0, next_kept v wish frames is.1)
-accepts_at (stage.GrantFrame place) v wish frames c ready is = (is.0, next_kept v wish frames is.1)
-accepts_at (stage.GrantFence place) v wish frames c ready is = (is.0, next_kept v wish frames is.1)
-accepts_at (stage.GrantFlags place) v wish frames c ready is = (is.0, next_kept v wish frames is.1)
-accepts_at s v wish frames c ready is = is
-
-either_submit : (b : Bool) (c : Check) (x y : Result ℕ Refusal × View) → Stands x.1 c → ((b ≡ false) → Stands y.1 c) → Stands (if b then x else y).1 c
-either_submit true c x y p q = p
-either_submit false c x y p q = q refl
-
-submit_frames : (v : View) (wish : Wish) (frames : Option (List ℕ × List Bool)) (c : Check) → is_ready v.stage ≡ true → Stands v c → Stands (submit_with v wish frames).1 c
-submit_frames v wish None c ready is = is
-submit_frames v wish (Some frames) c ready is = accepts_at v.stage v wish frames c ready is
-
-submit_wish : (v : View) (wish : Option Wish) (c : Check) → is_ready v.stage ≡ true → Stands v c → Stands (submit_one v wish).1 c
-submit_wish v None c ready is = is
-submit_wish v (Some wish) c ready is =
-    either_submit (is_write wish.transfer && v.offers.read_only) c _ _ is
-    (λ t. either_submit (nat_lt v.offers.sectors (wish.sector + named_of wish.transfer wish.count)) c _ _ is
-    (λ t. either_submit (nat_lt (most_segments v.offers wish.transfer) (frames_for wish.count)) c _ _ is
-    (λ t. either_submit (nat_le (entries_of v.shape.order) (unfinished v)) c _ _ is (λ t. submit_frames v wish (taking (frames_taken wish.count) v.pool []) c ready is))))
-
-unready : (b : Bool) → not b ≡ false → b ≡ true
-unready true e = refl
-unready false e = absurd (true≢false e)
-
-pub stands_submit : (v : View) (job : Submission) (c : Check) → Stands v c → Stands (submit_of v job).1 c
-stands_submit v job c is =
-    either_submit (v.last == 4294967295) c _ _ is
-    (λ t. either_submit v.closing c _ _ is (λ t. either_submit (not (is_ready v.stage)) c _ _ is (λ ready. submit_wish v (wish_of v.offers job) c (unready (is_ready v.stage) ready) is)))
-
 -- a suspend
 resumed_at : (s : FrontStage) (v : View) (c : Check) → v.stage ≡ s → StandsAt s v c → StandsAt (stage_after s) (resumed v) Awake
 resumed_at (stage.ReadData n) v c here is = ((refl, refl, refl), rw here is.1)
@@ -469,11 +305,12 @@ resumed_at s v c here is = ((refl, refl), tt)
 pub stands_resumed : (v : View) (c : Check) → Stands v c → Stands (resumed v) Awake
 stands_resumed v c is = resumed_at v.stage v c refl is
 
+-- what asks for something where it has one of these is no wait
+pub asks_some : {A B : Type 0} (o : Option A) (asks : Option A → FrontAsk) → IsSome o → ((x : A) → is_wait (asks (Some x)) ≡ false) → asks o ≡ ask.Wait → B
+asks_some None asks some on e = absurd (true≢false (sym some))
+asks_some (Some x) asks some on e = absurd (true≢false (sym (ap is_wait e) ∙ on x))
+
 -- data that are left are read at once
 pub left_asks : (s : FrontStage) (v : View) (c : Check) → is_left s ≡ true → StandsAt s v c → ask_at s v ≡ ask.Wait → ⊥
-left_asks (stage.LeftData n) v c left is e = by_ending v.ending is.1 e
-  where
-    by_ending : (o : Option Ending) → IsSome o → read_ask o n ≡ ask.Wait → ⊥
-    by_ending None some e = true≢false (sym some)
-    by_ending (Some ending) some e = true≢false (sym (ap is_wait e))
+left_asks (stage.LeftData n) v c left is e = asks_some v.ending (λ o. read_ask o n) is.1 (λ ending. refl) e
 left_asks s v c left is e = true≢false (sym left)

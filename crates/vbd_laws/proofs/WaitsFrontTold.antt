@@ -1,11 +1,10 @@
 -- What an answer makes of the front's negotiation goes with what that hears.
 use Rattle.std.proofs.Common.{inl, inr, ◌≡◌, ◌∙◌, ap, sym, subst, refl, ℕ, ◌+◌, Bool, true, false, true≢false, List}
-use Rattle.std.specs.Prelude.{Option, Some, None, nat_lt, ◌==◌}
+use Rattle.std.specs.Prelude.{nat_lt, ◌==◌}
 use Rattle.blk_base.specs.declared.ask.FrontAnswer.{FrontAnswer}
 use Rattle.blk_base.specs.declared.ask.FrontAnswer.TheVariants as answer
 use Rattle.blk_front.specs.declared.stage.FrontStage.{FrontStage}
 use Rattle.blk_front.specs.declared.stage.FrontStage.TheVariants as ring_stage
-use Rattle.xenbus_state.specs.declared.state.BusState.{BusState}
 use Rattle.xenbus_state.specs.declared.state.BusState.TheVariants as state
 use Rattle.xenbus_state.specs.declared.stage.FrontBusStage.{FrontBusStage}
 use Rattle.xenbus_state.specs.declared.stage.FrontBusStage.TheVariants as stage
@@ -20,7 +19,7 @@ use Rattle.vbd_front.specs.Step.{settled_at, settled}
 use Rattle.vbd_model.specs.Fit.{FrontGoesWith}
 use Rattle.negotiation_laws.proofs.Choices.{either}
 use Rattle.vbd_laws.specs.Waits.{Heard, Fired, front_hears}
-use Rattle.vbd_laws.proofs.FitFrontBus.{due_cases}
+use Rattle.vbd_laws.proofs.FitFrontBus.{due_ways}
 use Rattle.vbd_laws.proofs.WaitsFront.{bus_asks_on, BusWaits, bus_waits}
 use Rattle.vbd_laws.proofs.WaitsFrontHeard.{IsGone, HearsAt, Hears, says_at, dealt_closing, dealt_gone, settled_hears}
 
@@ -43,24 +42,16 @@ module _ (free : Type 0) where
   pub told_hears : (v : FrontView) (idle : Bool) (r : FrontStage) (h : Heard) (a : FrontAnswer) → (idle ≡ true → free) → FrontGoesWith v.stage v r → Hears free v h → front.speaks (bus.ask_of v idle) ≡ true → bus.IsAnswer (bus.ask_of v idle) a
       → Hears free (step_of v idle a) (front_hears (front.key_ask (bus.ask_of v idle)) a h)
   told_hears v idle r h a may goes is =
-      due_cases Told v idle (λ says allowed. says_at free v.stage v idle r h a may goes is says allowed) (λ here closing is_idle. by_state v.state here closing)
+      due_ways Told v idle (λ says allowed. says_at free v.stage v idle r h a may goes is says allowed) (λ here closing says allowed. writes here closing a allowed)
+      (λ here gone says allowed. absurd (true≢false (sym says))) (λ here gone says allowed. absurd (true≢false (sym says)))
     where
       Told : FrontBusStage → Type 0
       Told d = front.speaks (bus.ask_at d v) ≡ true → bus.IsAnswer (bus.ask_at d v) a → Hears free (step_at d (at d v) idle a) (front_hears (front.key_ask (bus.ask_at d v)) a h)
-
-      by_port : (gone : Bool) (port : Option ℕ) → Told (bus.leaving gone port)
-      by_port false port says allowed = absurd (true≢false (sym says))
-      by_port true None says allowed = absurd (true≢false (sym says))
-      by_port true (Some p) says allowed = absurd (true≢false (sym says))
 
       writes : v.stage ≡ stage.Rest → v.closing ≡ true → (x : FrontAnswer) → bus.IsAnswer (bus_ask.SetState state.Closing) x
           → Hears free (step_at (stage.WriteState state.Closing) (at (stage.WriteState state.Closing) v) idle x) (front_hears (front.key_ask (bus_ask.SetState state.Closing)) x h)
       writes here closing answer.Done allowed = dealt_closing free v.state v.closing v.gone h (subst (λ (s : FrontBusStage). HearsAt free s v.state v.closing v.gone h) here is) closing
       writes here closing x allowed = absurd allowed
-
-      by_state : (own : BusState) → v.stage ≡ stage.Rest → v.closing ≡ true → Told (bus.closing_stage own v)
-      by_state state.Closing here closing = by_port v.gone v.port
-      by_state own here closing = λ says allowed. writes here closing a allowed
 
   makes_hears : (s : FrontBusStage) (v : FrontView) (idle : Bool) (h : Heard) (a : FrontAnswer) → makes s ≡ true → HearsAt free s v.state v.closing v.gone h → Hears free (step_at s (at s v) idle a) h
   makes_hears (stage.RingWord word) v idle h answer.Done is there = either (λ (one : FrontBusStage). HearsAt free one v.state v.closing v.gone h) (word == 15) (stage.Grant 0) (stage.RingWord (word + 1)) there there
@@ -83,7 +74,8 @@ module _ (free : Type 0) where
   pub follows_hears : (v : FrontView) (idle : Bool) (later : FrontStage) (h : Heard) (a : FrontAnswer) → Hears free v h → front.speaks (bus.ask_of v idle) ≡ false → front_view.rests (bus.ask_of v idle) ≡ false
       → Hears free (front_step.followed (bus.ask_of v idle) later idle v a) h
   follows_hears v idle later h a is quiet on =
-      due_cases (Follows later idle v a h) v idle (begun v.stage is) (λ here closing is_idle. by_state v.state here) refl quiet on
+      due_ways (Follows later idle v a h) v idle (begun v.stage is) (λ here closing e quiet on. absurd (true≢false quiet))
+      (λ here gone e quiet on. ended 0 later (dealt_gone free v.state v.closing v.gone h (subst (λ (s : FrontBusStage). HearsAt free s v.state v.closing v.gone h) here is) gone) e) (λ here gone e quiet on. is) refl quiet on
     where
       told : (d : FrontBusStage) (x : FrontAnswer) → makes d ≡ true → HearsAt free d v.state v.closing v.gone h → bus.due v idle ≡ d → Hears free (front_step.bus_told idle v x) h
       told d x moves there e = settled_hears free idle (step_of v idle x) h (subst (λ (s : FrontBusStage). Hears free (step_at s (at s v) idle x) h) (sym e) (makes_hears d v idle h x moves there))
@@ -109,15 +101,6 @@ module _ (free : Type 0) where
       begun stage.Closed there e quiet on = absurd (true≢false on)
       begun (stage.Broken word) there e quiet on = absurd (true≢false on)
       begun other there e quiet on = absurd (true≢false quiet)
-
-      by_port : (gone : Bool) (port : Option ℕ) → v.stage ≡ stage.Rest → v.gone ≡ gone → Follows later idle v a h (bus.leaving gone port)
-      by_port false port here g e quiet on = absurd (true≢false on)
-      by_port true None here g e quiet on = is
-      by_port true (Some p) here g e quiet on = ended 0 later (dealt_gone free v.state v.closing v.gone h (subst (λ (s : FrontBusStage). HearsAt free s v.state v.closing v.gone h) here is) g) e
-
-      by_state : (own : BusState) → v.stage ≡ stage.Rest → Follows later idle v a h (bus.closing_stage own v)
-      by_state state.Closing here = by_port v.gone v.port here refl
-      by_state own here = λ e quiet on. absurd (true≢false quiet)
 
   waits_at : (d : FrontBusStage) (v : FrontView) (idle : Bool) (path : List ℕ) → bus.ask_at d v ≡ bus_ask.Wait → v.gone ≡ false → Hears free (step_at d (at d v) idle (answer.Watched path)) Fired
   waits_at stage.Rest v idle path e gone = (refl, gone)
@@ -157,7 +140,7 @@ kept_after : (v u x : FrontView) → IsKept v u → IsKept u x → IsKept v x
 kept_after v u x p q = (q.0 ∙ p.0, q.1 ∙ p.1, q.2 ∙ p.2)
 
 pub settled_kept : (idle : Bool) (u : FrontView) → IsKept u (settled idle u)
-settled_kept idle u = due_cases (λ (d : FrontBusStage). bus.due u idle ≡ d → IsKept u (settled_at (bus.ask_at d u) idle u)) u idle (begun u.stage) (λ here closing is_idle. by_state u.state) refl
+settled_kept idle u = due_ways (λ (d : FrontBusStage). bus.due u idle ≡ d → IsKept u (settled_at (bus.ask_at d u) idle u)) u idle (begun u.stage) (λ here closing e. (refl, refl, refl)) (λ here gone e. (refl, refl, refl)) (λ here gone e. ends e) refl
   where
     ends : bus.due u idle ≡ stage.EndOtherGrants → IsKept u (step_of u idle answer.Done)
     ends e = subst (λ (d : FrontBusStage). IsKept u (step_at d (at d u) idle answer.Done)) (sym e) (refl, refl, refl)
@@ -165,15 +148,6 @@ settled_kept idle u = due_cases (λ (d : FrontBusStage). bus.due u idle ≡ d �
     begun : (s : FrontBusStage) → bus.due u idle ≡ s → IsKept u (settled_at (bus.ask_at s u) idle u)
     begun stage.EndOtherGrants e = ends e
     begun s e = (refl, refl, refl)
-
-    by_port : (gone : Bool) (port : Option ℕ) → bus.due u idle ≡ bus.leaving gone port → IsKept u (settled_at (bus.ask_at (bus.leaving gone port) u) idle u)
-    by_port false port e = (refl, refl, refl)
-    by_port true (Some p) e = (refl, refl, refl)
-    by_port true None e = ends e
-
-    by_state : (own : BusState) → bus.due u idle ≡ bus.closing_stage own u → IsKept u (settled_at (bus.ask_at (bus.closing_stage own u) u) idle u)
-    by_state state.Closing e = by_port u.gone u.port e
-    by_state own e = (refl, refl, refl)
 
 makes_kept : (s : FrontBusStage) (v : FrontView) (idle : Bool) (a : FrontAnswer) → makes s ≡ true → IsKept v (step_at s (at s v) idle a)
 makes_kept stage.NewPort v idle (answer.Port port) is = (refl, refl, refl)
@@ -193,7 +167,8 @@ abbrev Keeps : (later : FrontStage) (idle : Bool) (v : FrontView) (a : FrontAnsw
 Keeps later idle v a d = bus.due v idle ≡ d → front_view.rests (bus.ask_at d v) ≡ false → IsKept v (front_step.followed (bus.ask_at d v) later idle v a)
 
 pub follows_kept : (v : FrontView) (idle : Bool) (later : FrontStage) (a : FrontAnswer) → front_view.rests (bus.ask_of v idle) ≡ false → IsKept v (front_step.followed (bus.ask_of v idle) later idle v a)
-follows_kept v idle later a on = due_cases (Keeps later idle v a) v idle (begun v.stage) (λ here closing is_idle. by_state v.state) refl on
+follows_kept v idle later a on =
+    due_ways (Keeps later idle v a) v idle (begun v.stage) (λ here closing e on. (refl, refl, refl)) (λ here gone e on. ended 0 later e) (λ here gone e on. (refl, refl, refl)) refl on
   where
     told : (d : FrontBusStage) (x : FrontAnswer) → makes d ≡ true → bus.due v idle ≡ d → IsKept v (front_step.bus_told idle v x)
     told d x moves e =
@@ -219,15 +194,6 @@ follows_kept v idle later a on = due_cases (Keeps later idle v a) v idle (begun 
     begun stage.Closed e on = absurd (true≢false on)
     begun (stage.Broken word) e on = absurd (true≢false on)
     begun s e on = (refl, refl, refl)
-
-    by_port : (gone : Bool) (port : Option ℕ) → Keeps later idle v a (bus.leaving gone port)
-    by_port false port e on = absurd (true≢false on)
-    by_port true None e on = (refl, refl, refl)
-    by_port true (Some p) e on = ended 0 later e
-
-    by_state : (own : BusState) → Keeps later idle v a (bus.closing_stage own v)
-    by_state state.Closing = by_port v.gone v.port
-    by_state own = λ e on. (refl, refl, refl)
 
 pub woken_kept : (broken idle : Bool) (v : FrontView) (a : FrontAnswer) → bus.ask_of v idle ≡ bus_ask.Wait → IsKept v (front_step.woken broken idle v a)
 woken_kept true idle v a e = (refl, refl, refl)

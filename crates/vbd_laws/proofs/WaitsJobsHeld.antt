@@ -9,7 +9,7 @@ use Rattle.blk_base.specs.declared.ask.BackAsk.TheVariants as back_ask
 use Rattle.blk_base.specs.declared.ask.BackAnswer.{BackAnswer}
 use Rattle.blk_base.specs.declared.ask.BackAnswer.TheVariants as answer
 use Rattle.blk_base.specs.declared.moves.BackMover.TheVariants as back_mover
-use Rattle.hypervisor.specs.Act.{FrontAct, BackAct, Took, back_act}
+use Rattle.hypervisor.specs.Act.{BackAct, Took, back_act}
 use Rattle.ring_words.specs.Ring.{requests_of, overruns}
 use Rattle.ring_words.specs.Shape.{entry_words_of}
 use Rattle.back_jobs.specs.Work.{Work, ask_of}
@@ -33,15 +33,15 @@ use Rattle.vbd_back.specs.View as back_view
 use Rattle.vbd_back.specs.Ask as back
 use Rattle.vbd_back.specs.Step as back_step
 use Rattle.vbd_model.specs.World.{World, start_of, backend_of}
-use Rattle.vbd_model.specs.Happening.{Happening, FrontMoves, BackMoves, JobMoves, Closes, Suspends, front_turn, back_turn, back_does, happens, after}
+use Rattle.vbd_model.specs.Happening.{Happening, FrontMoves, BackMoves, JobMoves, Closes, Suspends, back_does, happens, after}
 use Rattle.vbd_model.specs.Fit.{IsFit}
 use Rattle.negotiation_laws.proofs.Choices.{either}
 use Rattle.vbd_laws.specs.Waits.{IsOver, JobMayWait, JobWaits}
 use Rattle.vbd_laws.proofs.Fit.{fit_start, fit_happens}
 use Rattle.vbd_laws.proofs.MovesTurns.{back_asks, back_cases}
-use Rattle.vbd_laws.proofs.MovesFront.{front_move_is, front_move_none}
-use Rattle.vbd_laws.proofs.MovesBack.{back_move_is, back_move_none}
 use Rattle.vbd_laws.proofs.WaitsJobs.{IsSupplied, AreSupplied, supplied_started, supplied_told, supplied_without, supplied_after, asks_so, waits_is}
+use Rattle.vbd_laws.proofs.MovesFront.{after_front_move}
+use Rattle.vbd_laws.proofs.MovesBack.{after_back_move}
 
 abbrev Supplies : ends.View → Type 0
 Supplies v = AreSupplied v.jobs.works
@@ -100,21 +100,13 @@ goes w a all =
 abbrev SuppliesIn : World → Type 0
 SuppliesIn u = Supplies u.rings.back
 
-back_turns : (w : World) (act : Option BackAct) → IsFit w → Supplies w.rings.back → back_turn w ≡ act → SuppliesIn (happens w BackMoves)
-back_turns w None fit all e = let is = back_move_none w fit e in subst SuppliesIn (sym is.world) all
-back_turns w (Some a) fit all e = let is = back_move_is w a fit e in subst SuppliesIn (sym is.world) (goes w a all e)
-
-front_turns : (w : World) (act : Option FrontAct) → IsFit w → Supplies w.rings.back → front_turn w ≡ act → SuppliesIn (happens w FrontMoves)
-front_turns w None fit all e = let is = front_move_none w fit e in subst SuppliesIn (sym is.world) all
-front_turns w (Some a) fit all e = let is = front_move_is w a fit e in subst SuppliesIn (sym is.world) all
-
 job_turns : (w : World) (number : ℕ) (act : Option BackAct) → Supplies w.rings.back → (let r : rings.World = ring.job_after w.rings number act in Supplies r.back)
 job_turns w number None all = all
 job_turns w number (Some a) all = supplied_told w.rings.back.jobs number a.answer all
 
 supplies_on : (w : World) (h : Happening) → IsFit w → Supplies w.rings.back → SuppliesIn (happens w h)
-supplies_on w FrontMoves fit all = front_turns w (front_turn w) fit all refl
-supplies_on w BackMoves fit all = back_turns w (back_turn w) fit all refl
+supplies_on w FrontMoves fit all = after_front_move (λ act u. SuppliesIn u) w fit all (λ a e. all)
+supplies_on w BackMoves fit all = after_back_move (λ act u. SuppliesIn u) w fit all (λ a e. goes w a all e)
 supplies_on w (JobMoves number outcome) fit all = job_turns w number (ring.job_turn w.rings number outcome) all
 supplies_on w (Closes end.Front) fit all = all
 supplies_on w (Closes end.Back) fit all = all
